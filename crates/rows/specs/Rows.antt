@@ -1,0 +1,100 @@
+-- Rows and moves of a SAS+ task.
+--
+-- A task has V variables; its values table says how many values each one has, numbered from 0. A row has one byte for each
+-- variable: a value, or 255, the mark for undefined. A complete row (a state) has no mark; any other is a partial state.
+use mathlib.Core.Bool.{Bool, true, false, not, cond, _&&_, _||_}
+use mathlib.Core.List.{List, [], _∷_}
+use Prim.Native.Nat.{ℕ}
+use lib.Dec.{eqb, ltb, leb}
+use lib.ListN.{length}
+use Rattle.std.specs.declared.option.Option.{Option}
+use Rattle.std.specs.declared.option.Option.the-variants.{Some, None}
+
+abbrev pub Row : Type 0
+Row = List ℕ
+
+-- the byte fixes its variable to a value
+abbrev pub fixed : ℕ → Bool
+fixed b = not (eqb b 255)
+
+-- every variable has at least one value
+abbrev pub valued : List ℕ → Bool
+valued [] = true
+valued (n ∷ vs) = not (eqb n 0) && valued vs
+
+-- a values table that a task can have: of 1 to 64 variables, each with at least one value
+abbrev pub usable : List ℕ → Bool
+usable vs = (ltb 0 (length vs) && leb (length vs) 64) && valued vs
+
+-- the two are equally long, and the test holds of the two bytes at each place
+abbrev pub both : (ℕ → ℕ → Bool) → List ℕ → List ℕ → Bool
+both p [] [] = true
+both p [] (b ∷ ys) = false
+both p (a ∷ xs) [] = false
+both p (a ∷ xs) (b ∷ ys) = p a b && both p xs ys
+
+-- a byte of a row at a variable with n values: a value or the mark; a value
+abbrev pub fits-at : ℕ → ℕ → Bool
+fits-at n b = not (fixed b) || ltb b n
+
+abbrev pub complete-at : ℕ → ℕ → Bool
+complete-at n b = fixed b && ltb b n
+
+-- the row has a byte for each variable, each a value of it or the mark
+abbrev pub fits : List ℕ → Row → Bool
+fits values row = both fits-at values row
+
+-- the row has a byte for each variable, each a value of it
+abbrev pub complete : List ℕ → Row → Bool
+complete values row = both complete-at values row
+
+abbrev pub covers-at : ℕ → ℕ → Bool
+covers-at a b = not (fixed a) || eqb a b
+
+-- s covers t: at each variable, s has the mark or t's byte.
+-- A row agrees with a complete row, which has every value that it fixes, exactly if it covers it.
+abbrev pub covers : Row → Row → Bool
+covers s t = both covers-at s t
+
+pub record Move : Type 0 where
+  pub price : ℕ
+  pub condition : Row
+  pub effect : Row
+
+-- the effect's value where it fixes one, else the state's
+abbrev pub overlaid : Row → Row → Row
+overlaid [] s = s
+overlaid (e ∷ es) [] = []
+overlaid (e ∷ es) (b ∷ s) = cond (fixed e) e b ∷ overlaid es s
+
+-- where a move leads from a state: it applies where the state has every value that the condition fixes
+abbrev pub applied : Move → Row → Option Row
+applied m s = cond (covers (m .condition) s) (Some (overlaid (m .effect) s)) None
+
+-- the effect fixes some variable to the value that the row fixes there
+abbrev pub hits : Row → Row → Bool
+hits [] e = false
+hits (b ∷ g) [] = false
+hits (b ∷ g) (x ∷ e) = (fixed x && eqb x b) || hits g e
+
+-- both fix a value, and not the same
+abbrev pub differ : ℕ → ℕ → Bool
+differ a b = (fixed a && fixed b) && not (eqb a b)
+
+-- no variable is fixed by effect and row to different values, and none that the effect leaves undefined by condition and row
+abbrev pub clear : Row → Row → Row → Bool
+clear [] c e = true
+clear (b ∷ g) [] e = true
+clear (b ∷ g) (y ∷ c) [] = true
+clear (b ∷ g) (y ∷ c) (x ∷ e) = not (cond (fixed x) (differ x b) (differ y b)) && clear g c e
+
+-- the condition's value where there is one, else the mark where the effect fixes a value, else the row's byte
+abbrev pub backed : Row → Row → Row → Row
+backed [] c e = []
+backed (b ∷ g) [] e = []
+backed (b ∷ g) (y ∷ c) [] = []
+backed (b ∷ g) (y ∷ c) (x ∷ e) = cond (fixed y) y (cond (fixed x) 255 b) ∷ backed g c e
+
+-- the row regressed over the move, or nothing where it is not
+abbrev pub regressed : Move → Row → Option Row
+regressed m g = cond (hits g (m .effect) && clear g (m .condition) (m .effect)) (Some (backed g (m .condition) (m .effect))) None
