@@ -1,1 +1,2 @@
+pub mod Alls
 pub mod Both

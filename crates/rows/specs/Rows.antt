@@ -17,14 +17,18 @@ Row = List ℕ
 abbrev pub fixed : ℕ → Bool
 fixed b = not (eqb b 255)
 
+-- the test holds of each byte
+abbrev pub all : (ℕ → Bool) → List ℕ → Bool
+all p [] = true
+all p (a ∷ xs) = p a && all p xs
+
 -- every variable has at least one value
 abbrev pub valued : List ℕ → Bool
-valued [] = true
-valued (n ∷ vs) = not (eqb n 0) && valued vs
+valued values = all (λ n. not (eqb n 0)) values
 
 -- a values table that a task can have: of 1 to 64 variables, each with at least one value
 abbrev pub usable : List ℕ → Bool
-usable vs = (ltb 0 (length vs) && leb (length vs) 64) && valued vs
+usable values = (ltb 0 (length values) && leb (length values) 64) && valued values
 
 -- the two are equally long, and the test holds of the two bytes at each place
 abbrev pub both : (ℕ → ℕ → Bool) → List ℕ → List ℕ → Bool

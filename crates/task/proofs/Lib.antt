@@ -1,0 +1,7 @@
+pub mod Eaches
+pub mod NameLists
+pub mod Readings
+pub mod Layouts
+pub mod Spellings
+pub mod Judgings
+pub mod Acceptings

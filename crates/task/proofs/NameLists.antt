@@ -1,0 +1,86 @@
+-- Names that lie one after another, from a place on.
+use mathlib.Core.Path.{_≡_, refl, sym, ap, _∙_}
+use mathlib.Core.Bool.{Bool, true, false, _&&_}
+use mathlib.Core.List.{List, [], _∷_}
+use mathlib.Core.Logic.{⊎-elim}
+use Prim.Native.Nat.{ℕ, zero, suc, _+_, _-_, _<_, _≤_}
+use native.Mathlib.Omega.{arith}
+use lib.Dec.{eqb, leb}
+use lib.ListN.{length, getD, take, drop, length-drop}
+use Rattle.std.proofs.shelf.Lists.{drop-more, drop-all, drop-drop}
+use Rattle.std.proofs.shelf.Tests.{eq-eqb, ne-eqb, cases-lt, and-parts, leb-true, both-ways}
+use Rattle.rows.specs.Rows.{all}
+use Rattle.std.specs.declared.option.Option.the-variants.{Some, None}
+use Rattle.task.specs.Files.{named, begins, printable, nameIn}
+
+not-past : (at : ℕ) (bs : List ℕ) → begins (drop at bs) ≡ true → at < length bs
+not-past at bs b = ⊎-elim
+    (λ l. l)
+    (λ (l : length bs ≤ at). absurd (both-ways (begins (drop at bs)) (ap begins (drop-all at bs l)) b))
+    (cases-lt at (length bs))
+
+-- a name that begins at a place lies within the bytes
+pub begins-within : (at : ℕ) (bs : List ℕ) → begins (drop at bs) ≡ true → (at < length bs) × (at + (1 + getD bs at 0) ≤ length bs)
+begins-within at bs b =
+    let l : at < length bs = not-past at bs b in
+    let b′ : begins (getD bs at 0 ∷ drop (at + 1) bs) ≡ true = sym (ap begins (drop-more bs at 0 l)) ∙ b in
+    let n = getD bs at 0 in
+    let rest = drop (at + 1) bs in
+    let p = and-parts (leb 1 n && leb n 40) (leb n (length rest) && all printable (take n rest)) b′ .1 in
+    let q = leb-true n (length rest) (and-parts (leb n (length rest)) (all printable (take n rest)) p .0) in
+    (l, omega (arith, q, length-drop (at + 1) bs))
+
+named-cons : (m n : ℕ) (rest : List ℕ) → begins (n ∷ rest) ≡ true → named (suc m) (n ∷ rest) ≡ named m (drop n rest)
+named-cons m n rest b = rw b refl
+
+-- one name on
+pub named-more : (m at : ℕ) (bs : List ℕ) → begins (drop at bs) ≡ true → named (suc m) (drop at bs) ≡ named m (drop (at + (1 + getD bs at 0)) bs)
+named-more m at bs b =
+    let l : at < length bs = not-past at bs b in
+    let e = drop-more bs at 0 l in
+    let to : at + 1 + getD bs at 0 ≡ at + (1 + getD bs at 0) = omega arith in
+    ap (named (suc m)) e ∙ named-cons m (getD bs at 0) (drop (at + 1) bs) (sym (ap begins e) ∙ b)
+    ∙ ap (named m) (drop-drop (getD bs at 0) (at + 1) bs ∙ ap (λ i. drop i bs) to)
+
+pub named-stuck : (m : ℕ) (bs : List ℕ) → begins bs ≡ false → named (suc m) bs ≡ false
+named-stuck m [] b = refl
+named-stuck m (n ∷ rest) b = rw b refl
+
+pub named-none : (at : ℕ) (bs : List ℕ) → at ≤ length bs → named 0 (drop at bs) ≡ eqb at (length bs)
+named-none at bs h = ⊎-elim
+    (λ (l : at < length bs). rw (drop-more bs at 0 l, ne-eqb at (length bs) (λ e. omega arith)))
+    (λ (l : length bs ≤ at). rw (drop-all at bs l, eq-eqb at (length bs) (omega arith)))
+    (cases-lt at (length bs))
+
+-- name k + 1 of the names from a place on is name k of those after the first
+pub name-more : (base at k : ℕ) (bs : List ℕ) → at < length bs
+    → nameIn (base + at) (drop at bs) (suc k) ≡ nameIn (base + (at + (1 + getD bs at 0))) (drop (at + (1 + getD bs at 0)) bs) k
+name-more base at k bs l =
+    let to : at + 1 + getD bs at 0 ≡ at + (1 + getD bs at 0) = omega arith in
+    let so : base + at + 1 + getD bs at 0 ≡ base + (at + (1 + getD bs at 0)) = omega arith in
+    ap (λ xs. nameIn (base + at) xs (suc k)) (drop-more bs at 0 l)
+    ∙ ap (λ i. nameIn i (drop (getD bs at 0) (drop (at + 1) bs)) k) so
+    ∙ ap (λ xs. nameIn (base + (at + (1 + getD bs at 0))) xs k) (drop-drop (getD bs at 0) (at + 1) bs ∙ ap (λ i. drop i bs) to)
+
+pub name-none : (base at k : ℕ) (bs : List ℕ) → length bs ≤ at → nameIn (base + at) (drop at bs) k ≡ None
+name-none base at k bs l = ap (λ xs. nameIn (base + at) xs k) (drop-all at bs l)
+
+pub name-here : (base at : ℕ) (bs : List ℕ) → at < length bs → nameIn (base + at) (drop at bs) 0 ≡ Some (take (getD bs at 0) (drop (at + 1) bs), base + at + 1)
+name-here base at bs l = ap (λ xs. nameIn (base + at) xs 0) (drop-more bs at 0 l)
+
+-- where names are left, one begins
+pub begins-from-named : (m : ℕ) (bs : List ℕ) → 0 < length bs → named m bs ≡ true → (begins bs ≡ true) × (0 < m)
+begins-from-named zero [] l h = absurd (omega arith)
+begins-from-named zero (n ∷ rest) l h = absurd (both-ways false refl h)
+begins-from-named (suc m) [] l h = absurd (both-ways false refl h)
+begins-from-named (suc m) (n ∷ rest) l h = (and-parts (begins (n ∷ rest)) (named m (drop n rest)) h .0, omega arith)
+
+-- where so many names are left, one begins, and one fewer is left after it
+pub left-begins : (m i at : ℕ) (bs : List ℕ) → at < length bs → named (m - i) (drop at bs) ≡ true → begins (drop at bs) ≡ true
+left-begins m i at bs l h = begins-from-named (m - i) (drop at bs) (omega (arith, length-drop at bs)) h .0
+
+pub left-more : (m i at : ℕ) (bs : List ℕ) → at < length bs → named (m - i) (drop at bs) ≡ true → named (m - (i + 1)) (drop (at + (1 + getD bs at 0)) bs) ≡ true
+left-more m i at bs l h =
+    let p = begins-from-named (m - i) (drop at bs) (omega (arith, length-drop at bs)) h in
+    let e : m - i ≡ suc (m - (i + 1)) = omega (arith, p .1) in
+    sym (named-more (m - (i + 1)) at bs (p .0)) ∙ sym (ap (λ n. named n (drop at bs)) e) ∙ h

@@ -1,0 +1,21 @@
+ghost use mathlib.Core.Path.{_≡_};
+ghost use Prim.Native.Nat.{_+_, _≤_};
+ghost use lib.ListN.{length};
+ghost use Rattle.task.specs.Files.{word};
+
+mod checks;
+pub mod faults;
+mod names;
+mod reader;
+pub mod tables;
+
+pub use names::name;
+pub use reader::read;
+
+// The 32-bit number at a place, low byte first.
+fn word(bytes: &[u8], at: usize) -> u32
+    requires { ⌜ at + 4 ≤ length (now bytes) ⌝ }
+    ensures { λ r. ⌜ r ≡ word (now (bytes .entry)) at ⌝ }
+{
+    u32::from_le_bytes([bytes[at], bytes[at + 1], bytes[at + 2], bytes[at + 3]])
+}
