@@ -10,6 +10,7 @@ use lib.ListN.{length, getD, take, drop, length-drop}
 use Rattle.std.proofs.shelf.Lists.{drop-more, drop-all, drop-drop}
 use Rattle.std.proofs.shelf.Tests.{eq-eqb, ne-eqb, cases-lt, and-parts, leb-true, both-ways}
 use Rattle.rows.specs.Rows.{all}
+use Rattle.std.specs.declared.option.Option.{Option}
 use Rattle.std.specs.declared.option.Option.the-variants.{Some, None}
 use Rattle.task.specs.Files.{named, begins, printable, nameIn}
 
@@ -84,3 +85,36 @@ left-more m i at bs l h =
     let p = begins-from-named (m - i) (drop at bs) (omega (arith, length-drop at bs)) h in
     let e : m - i ≡ suc (m - (i + 1)) = omega (arith, p .1) in
     sym (named-more (m - (i + 1)) at bs (p .0)) ∙ sym (ap (λ n. named n (drop at bs)) e) ∙ h
+
+-- each of so many names is there, and printable
+pub record HasName (base : ℕ) (bs : List ℕ) (k : ℕ) : Type 0 where
+  pub name : List ℕ
+  pub at : ℕ
+  pub is : nameIn base bs k ≡ Some (name, at)
+  pub text : all printable name ≡ true
+
+pub named-at : (m k base : ℕ) (bs : List ℕ) → named m bs ≡ true → k < m → HasName base bs k
+named-at zero k base bs h l = absurd (omega arith)
+named-at (suc m) k base [] h l = absurd (both-ways false refl h)
+named-at (suc m) zero base (n ∷ rest) h l =
+    let b = and-parts (begins (n ∷ rest)) (named m (drop n rest)) h .0 in
+    let p = and-parts (leb 1 n && leb n 40) (leb n (length rest) && all printable (take n rest)) b .1 in
+    record { name = take n rest; at = base + 1; is = refl; text = and-parts (leb n (length rest)) (all printable (take n rest)) p .1 }
+named-at (suc m) (suc k) base (n ∷ rest) h l =
+    let ih = named-at m k (base + 1 + n) (drop n rest) (and-parts (begins (n ∷ rest)) (named m (drop n rest)) h .1) (omega arith) in
+    record { name = ih .name; at = ih .at; is = ih .is; text = ih .text }
+
+some-some : (a b : List ℕ) (i j : ℕ) → _≡_ {A = Option (List ℕ × ℕ)} (Some (a, i)) (Some (b, j)) → a ≡ b
+some-some a b i j h = let same : _≡_ {A = List ℕ × ℕ} (a, i) (b, j) = cc in ap (λ (p : List ℕ × ℕ). p .0) same
+
+pub name-printable : (m k base : ℕ) (bs name : List ℕ) (at : ℕ) → named m bs ≡ true → k < m → nameIn base bs k ≡ Some (name, at) → all printable name ≡ true
+name-printable m k base bs name at h l e =
+    let n = named-at m k base bs h l in
+    ap (all printable) (some-some name (n .name) at (n .at) (sym e ∙ n .is)) ∙ n .text
+
+pub name-there : (m k base : ℕ) (bs : List ℕ) → named m bs ≡ true → k < m → nameIn base bs k ≡ None → ⊥
+name-there m k base bs h l e =
+    let n = named-at m k base bs h l in
+    let no : _≡_ {A = Option (List ℕ × ℕ)} None (Some (n .name, n .at)) = sym e ∙ n .is in
+    let z : _≡_ {A = ℕ} 0 1 = cc no in
+    omega arith

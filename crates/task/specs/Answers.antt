@@ -14,7 +14,9 @@ use Rattle.rows.specs.declared.refusals.Refusal.the-variants as refusal
 use Rattle.task.specs.declared.faults.Fault.{Fault}
 use Rattle.task.specs.declared.faults.Fault.the-variants.{Stub, Contents, Count, Position, Price, Name}
 use Rattle.task.specs.declared.tables.Task.{Task}
-use Rattle.task.specs.Files.{Bodies, judged, reading, named, nameIn, naming}
+use Rattle.task.specs.declared.tables.Step.{Step}
+use Rattle.rows.specs.Rows.{Move}
+use Rattle.task.specs.Files.{Bodies, width, moveCount, moveAt, judged, reading, named, nameIn, naming}
 
 abbrev pub refusalOf : Fault → Refusal
 refusalOf Stub = refusal.Stub
@@ -27,6 +29,13 @@ refusalOf Name = refusal.Name
 -- what the five slices hold
 abbrev pub held : Task → Bodies
 held t = record { values = t .values .now; start = t .start .now; goal = t .goal .now; moves = t .moves .now; names = t .names .now }
+
+abbrev pub moveOf : Step → Move
+moveOf s = record { price = s .price; condition = s .condition .now; effect = s .effect .now }
+
+abbrev pub Steps : Bodies → ℕ → Option Step → Type 0
+Steps b k None = moveCount b ≤ k
+Steps b k (Some s) = (k < moveCount b) × (moveOf s ≡ moveAt (width b) (b .moves) k)
 
 abbrev pub Checks : Bodies → Result Unit Fault → Type 0
 Checks b (Ok o) = judged b ≡ Ok b

@@ -3,8 +3,10 @@ ghost use Prim.Native.Nat.{_+_, _≤_};
 ghost use lib.ListN.{length};
 ghost use Rattle.task.specs.Files.{word};
 
+pub mod accepted;
 mod checks;
 pub mod faults;
+mod moves;
 mod names;
 mod reader;
 pub mod tables;

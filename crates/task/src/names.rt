@@ -4,6 +4,7 @@ ghost use Prim.Native.Nat.{ℕ, _+_, _^_, _<_};
 ghost use lib.ListN.{length};
 ghost use Rattle.task.specs.Files.{named};
 ghost use Rattle.task.specs.Answers.{FindsName, LooksUp, NamesMove, LiesInFile};
+use crate::accepted::Accepted;
 use crate::faults::Fault;
 use crate::reader::read;
 
@@ -33,6 +34,15 @@ fn look_up(names: &[u8], base: usize, k: usize) -> Option<(&[u8], usize)>
             &names[at + 1..at + 1 + usize::from(names[at])],
             base + at + 1,
         )),
+    }
+}
+
+impl<'a> Accepted<'a> {
+    // The name of move k, with the place of its first byte among the names; nothing if there is no such move.
+    pub fn name(&self, k: usize) -> Option<(&'a [u8], usize)>
+        ensures { λ r. ⌜ LooksUp 0 (now (now (self .entry) .task .names)) k r ⌝ }
+    {
+        look_up(self.task.names, 0, k)
     }
 }
 

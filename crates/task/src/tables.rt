@@ -7,3 +7,11 @@ pub struct Task<'a> {
     pub moves: &'a [u8],
     pub names: &'a [u8],
 }
+
+// A move as it lies in a task's body of moves.
+#[derive(Clone, Copy)]
+pub struct Step<'a> {
+    pub price: u32,
+    pub condition: &'a [u8],
+    pub effect: &'a [u8],
+}
