@@ -60,45 +60,66 @@ covers-at a b = not (fixed a) || eqb a b
 abbrev pub covers : Row → Row → Bool
 covers s t = both covers-at s t
 
-pub record Move : Type 0 where
-  pub price : ℕ
-  pub condition : Row
-  pub effect : Row
-
 -- the effect's value where it fixes one, else the state's
+abbrev pub overlaid-at : ℕ → ℕ → ℕ
+overlaid-at e b = cond (fixed e) e b
+
 abbrev pub overlaid : Row → Row → Row
 overlaid [] s = s
 overlaid (e ∷ es) [] = []
-overlaid (e ∷ es) (b ∷ s) = cond (fixed e) e b ∷ overlaid es s
+overlaid (e ∷ es) (b ∷ s) = overlaid-at e b ∷ overlaid es s
 
--- where a move leads from a state: it applies where the state has every value that the condition fixes
-abbrev pub applied : Move → Row → Option Row
-applied m s = cond (covers (m .condition) s) (Some (overlaid (m .effect) s)) None
+-- where a move with this condition and effect leads from a state: it applies where the state has every value that the
+-- condition fixes
+abbrev pub led : Row → Row → Row → Option Row
+led c e s = cond (covers c s) (Some (overlaid e s)) None
 
--- the effect fixes some variable to the value that the row fixes there
+-- the effect fixes a variable to the value that the row fixes there
+abbrev pub hits-at : ℕ → ℕ → Bool
+hits-at b x = fixed x && eqb x b
+
 abbrev pub hits : Row → Row → Bool
 hits [] e = false
 hits (b ∷ g) [] = false
-hits (b ∷ g) (x ∷ e) = (fixed x && eqb x b) || hits g e
+hits (b ∷ g) (x ∷ e) = hits-at b x || hits g e
 
 -- both fix a value, and not the same
 abbrev pub differ : ℕ → ℕ → Bool
 differ a b = (fixed a && fixed b) && not (eqb a b)
 
--- no variable is fixed by effect and row to different values, and none that the effect leaves undefined by condition and row
+-- effect x and row b fix different values, or, where the effect leaves the variable undefined, condition y and row b do
+abbrev pub clashes : ℕ → ℕ → ℕ → Bool
+clashes b y x = cond (fixed x) (differ x b) (differ y b)
+
 abbrev pub clear : Row → Row → Row → Bool
 clear [] c e = true
 clear (b ∷ g) [] e = true
 clear (b ∷ g) (y ∷ c) [] = true
-clear (b ∷ g) (y ∷ c) (x ∷ e) = not (cond (fixed x) (differ x b) (differ y b)) && clear g c e
+clear (b ∷ g) (y ∷ c) (x ∷ e) = not (clashes b y x) && clear g c e
 
 -- the condition's value where there is one, else the mark where the effect fixes a value, else the row's byte
+abbrev pub backed-at : ℕ → ℕ → ℕ → ℕ
+backed-at b y x = cond (fixed y) y (cond (fixed x) 255 b)
+
 abbrev pub backed : Row → Row → Row → Row
 backed [] c e = []
 backed (b ∷ g) [] e = []
 backed (b ∷ g) (y ∷ c) [] = []
-backed (b ∷ g) (y ∷ c) (x ∷ e) = cond (fixed y) y (cond (fixed x) 255 b) ∷ backed g c e
+backed (b ∷ g) (y ∷ c) (x ∷ e) = backed-at b y x ∷ backed g c e
 
--- the row regressed over the move, or nothing where it is not
+-- a row regressed over a move with this condition and effect: the effect hits it somewhere and clashes with it nowhere
+abbrev pub pulled : Row → Row → Row → Option Row
+pulled c e g = cond (hits g e && clear g c e) (Some (backed g c e)) None
+
+pub record Move : Type 0 where
+  pub price : ℕ
+  pub condition : Row
+  pub effect : Row
+
+-- where a move leads from a state, or nothing where it does not apply
+abbrev pub applied : Move → Row → Option Row
+applied m s = led (m .condition) (m .effect) s
+
+-- a row regressed over a move, or nothing where it is not
 abbrev pub regressed : Move → Row → Option Row
-regressed m g = cond (hits g (m .effect) && clear g (m .condition) (m .effect)) (Some (backed g (m .condition) (m .effect))) None
+regressed m g = pulled (m .condition) (m .effect) g
