@@ -3,7 +3,7 @@ use mathlib.Core.Path.{_≡_, refl, sym, ap, _∙_}
 use mathlib.Core.Bool.{Bool, true, false, not, _&&_, _||_}
 use mathlib.Core.List.{List, [], _∷_}
 use Prim.Native.Nat.{ℕ, suc, _+_, _*_, _/_, _%_, _<_, _≤_}
-use native.Mathlib.Nat.{div-add-mod', mul-div-cancel, mul-mod-left}
+use native.Mathlib.Nat.{div-add-mod', mul-div-cancel, mul-mod-left, mul-le-mul}
 use native.Mathlib.Omega.{arith}
 use lib.Dec.{eqb, leb, ltb}
 use lib.ListN.{length, getD}
@@ -14,7 +14,9 @@ use Rattle.rows.proofs.Alls.{all-at, all-from}
 use Rattle.rows.proofs.Both.{both-length, both-at, both-from}
 use Rattle.task.specs.Files.{Bodies, width, recordSize, moveCount, counts, moveAt, each, rowsFit, positions, prices, names, named}
 use Rattle.task.specs.Laws.{Allowed, Whole, Lawful, Sound, spelled}
+use Rattle.task.specs.Layouts.{total}
 use Rattle.task.proofs.Eaches.{each-at, each-from}
+use Rattle.task.proofs.NameLists.{named-short}
 use Rattle.task.proofs.Readings.{Judged}
 use Rattle.task.proofs.Spellings.{Spelled, spelled-from, named-from}
 
@@ -132,3 +134,12 @@ module _ (b : Bodies) where
               (λ k l. le-leb (moveAt (width b) (b .moves) k .price) 1000000000 (s .moves k (below k l) .price));
           named = ap (λ n. named n (b .names)) (m ∙ sym (s .each-named)) ∙ ap (named (length (s .spellings))) (s .named) ∙ named-from (s .spellings) (s .spelling);
         }
+
+-- sound bodies are not long: no sum of their lengths comes near 32 bits
+pub not-long : (b : Bodies) → Judged b → total b < 4294967296
+not-long b j =
+    let c = counted b (j .counted) in
+    let n = named-short (moveCount b) (b .names) (j .named) in
+    let r : recordSize (width b) ≤ 132 = omega (arith, c .few) in
+    let m : moveCount b * recordSize (width b) ≤ 4096 * 132 = mul-le-mul (c .not-many) r in
+    omega (arith, c .few, c .start, c .goal, c .records, c .not-many, n, m)

@@ -5,3 +5,6 @@ pub mod Layouts
 pub mod Spellings
 pub mod Judgings
 pub mod Acceptings
+pub mod Pieces
+pub mod Writings
+pub mod Restorings

@@ -3,7 +3,7 @@ use mathlib.Core.Path.{_≡_, refl, sym, ap, _∙_}
 use mathlib.Core.Bool.{Bool, true, false, _&&_}
 use mathlib.Core.List.{List, [], _∷_}
 use mathlib.Core.Logic.{⊎-elim}
-use Prim.Native.Nat.{ℕ, zero, suc, _+_, _-_, _<_, _≤_}
+use Prim.Native.Nat.{ℕ, zero, suc, _+_, _-_, _*_, _<_, _≤_}
 use native.Mathlib.Omega.{arith}
 use lib.Dec.{eqb, leb}
 use lib.ListN.{length, getD, take, drop, length-drop}
@@ -118,3 +118,13 @@ name-there m k base bs h l e =
     let no : _≡_ {A = Option (List ℕ × ℕ)} None (Some (n .name, n .at)) = sym e ∙ n .is in
     let z : _≡_ {A = ℕ} 0 1 = cc no in
     omega arith
+
+-- a name takes at most 41 bytes
+pub named-short : (m : ℕ) (bs : List ℕ) → named m bs ≡ true → length bs ≤ m * 41
+named-short zero [] h = omega arith
+named-short zero (n ∷ rest) h = absurd (both-ways false refl h)
+named-short (suc m) [] h = omega arith
+named-short (suc m) (n ∷ rest) h =
+    let p = and-parts (begins (n ∷ rest)) (named m (drop n rest)) h in
+    let q = and-parts (leb 1 n && leb n 40) (leb n (length rest) && all printable (take n rest)) (p .0) .0 in
+    omega (arith, named-short m (drop n rest) (p .1), leb-true n 40 (and-parts (leb 1 n) (leb n 40) q .1), length-drop n rest)

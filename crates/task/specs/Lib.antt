@@ -1,3 +1,5 @@
 pub mod Files
 pub mod Laws
 pub mod Answers
+pub mod Layouts
+pub mod Samples

@@ -9,10 +9,14 @@ pub mod faults;
 mod moves;
 mod names;
 mod reader;
+mod sample;
 pub mod tables;
+mod writer;
 
 pub use names::name;
 pub use reader::read;
+pub use sample::write_sample;
+pub use writer::write;
 
 // The 32-bit number at a place, low byte first.
 fn word(bytes: &[u8], at: usize) -> u32

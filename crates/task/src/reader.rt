@@ -5,6 +5,7 @@ ghost use lib.ListN.{length};
 ghost use Rattle.task.specs.Files.{place, size, body, bodies, tiles};
 ghost use Rattle.task.specs.Answers.{held, Reads};
 ghost use Rattle.task.specs.Laws.{Accepts};
+ghost use Rattle.task.specs.Layouts.{Restores};
 use crate::faults::Fault;
 use crate::tables::Task;
 use crate::word;
@@ -100,6 +101,7 @@ fn parse(file: &[u8]) -> Result<Task<'_>, Fault>
 pub fn read(file: &[u8]) -> Result<Task<'_>, Fault>
     ensures reading { λ r. ⌜ Reads (now (file .entry)) r ⌝ }
     ensures accepted { λ r. ⌜ Accepts (now (file .entry)) r ⌝ }
+    ensures restored { λ r. ⌜ Restores (now (file .entry)) r ⌝ }
 {
     parse(file)
 }
