@@ -1,0 +1,4 @@
+pub mod Runs
+pub mod Steps
+pub mod Promises
+pub mod Tellings

@@ -1,0 +1,60 @@
+-- What is promised of every run, over any arithmetic and any lawful space.
+use mathlib.Core.Path.{_≡_}
+use mathlib.Core.Logic.{_⊎_}
+use mathlib.Core.List.{List}
+use Prim.Native.Nat.{ℕ, _+_, _*_, _<_, _≤_}
+use lib.ListN.{length}
+use Rattle.std.specs.declared.option.Option.the-variants.{Some}
+use Rattle.rows.specs.Tasks.{nth}
+use Rattle.cost.specs.Costs.{Arithmetic}
+use Rattle.planning.specs.Spaces.{Space, Solves, worth, Best}
+use Rattle.uniform.specs.Runs.{Node, Run, Reads}
+use Rattle.uniform.specs.Steps.{Outcome, found, no-plan, out-of-space, After, Ends}
+
+-- P × M: the number of distinct rows that fit times that of moves
+abbrev pub most : Space → ℕ
+most p = p .many * p .moves
+
+-- the two hold the same nodes and kept rows, and the same nodes wait; the last covers may differ
+pub record Alike {a : Arithmetic} {p : Space} (s t : Run a p) : Type 0 where
+  pub nodes : s .nodes ≡ t .nodes
+  pub kept : s .kept ≡ t .kept
+  pub waiting : s .waiting ≡ t .waiting
+
+module _ (a : Arithmetic) (p : Space) where
+  -- the moves read from a found node are a plan that none comes before
+  abbrev pub FoundIsCheapest : Type 0
+  FoundIsCheapest = (cap i n : ℕ) (t : Run a p) → Ends a p cap i (found n) t
+      → (ns : List ℕ) × Reads a p (t .nodes) n ns × Best p a ns × ((ms : List ℕ) → Reads a p (t .nodes) n ms → ms ≡ ns)
+
+  -- "no plan" is told only if there is none
+  abbrev pub NoPlanIsNone : Type 0
+  NoPlanIsNone = (cap i : ℕ) (t : Run a p) (ns : List ℕ) → Ends a p cap i no-plan t → Solves p ns → ⊥
+
+  -- there are at most 1 + P × M nodes; with space for so many a run never is out of space; and it ends by step 2 + P × M
+  pub record FewNodes : Type 0 where
+    pub nodes : (cap i : ℕ) (s : Run a p) → After a p cap i s → length (s .nodes) ≤ 1 + most p
+    pub nodes-at-end : (cap i : ℕ) (o : Outcome) (t : Run a p) → Ends a p cap i o t → length (t .nodes) ≤ 1 + most p
+    pub space : (cap i : ℕ) (t : Run a p) → 1 + most p ≤ cap → Ends a p cap i out-of-space t → ⊥
+    pub steps : (cap i : ℕ) (s : Run a p) → After a p cap i s → i < 2 + most p
+    pub steps-at-end : (cap i : ℕ) (o : Outcome) (t : Run a p) → Ends a p cap i o t → i ≤ 2 + most p
+
+  -- a run of this capacity ends by a step: it can always go on to an ending, and is never still going on after that step
+  pub record EndsBy (cap last : ℕ) : Type 0 where
+    pub some : 0 < cap → (i : ℕ) × (o : Outcome) × (t : Run a p) × Ends a p cap i o t
+    pub still : (i : ℕ) (s : Run a p) → After a p cap i s → i < last
+    pub at-end : (i : ℕ) (o : Outcome) (t : Run a p) → Ends a p cap i o t → i ≤ last
+
+  -- the cost of a stored node joins the moves read from it, so many at most; and fewer than the capacity, so that with a
+  -- capacity of at most 65,535 one more never makes more than 65,535
+  abbrev pub JoinsFew : ℕ → ℕ → Type 0
+  JoinsFew n joins = (cap i : ℕ) (s : Run a p) (x : Node a p) → After a p cap i s → nth (s .nodes) n ≡ Some x
+      → (ns : List ℕ) × Reads a p (s .nodes) n ns × (x .cost ≡ worth p a ns) × (length ns ≤ joins) × (length ns < cap)
+
+  -- runs of capacities c ≤ d go alike until the first ends: that of c, and where it does not run out of space, that of d ends
+  -- alike in the same step. So what c finds, d finds, with the same nodes, and so the same moves
+  pub record GoAlike (c d : ℕ) : Type 0 where
+    pub still : (i : ℕ) (s t : Run a p) → After a p c i s → After a p d i t → Alike s t
+    pub longer : (i j : ℕ) (o q : Outcome) (s t : Run a p) → Ends a p c i o s → Ends a p d j q t → i ≤ j
+    pub at-end : (i j : ℕ) (o q : Outcome) (s t : Run a p) → Ends a p c i o s → Ends a p d j q t → (o ≡ out-of-space → ⊥) → (j ≡ i) × (q ≡ o) × Alike s t
+    pub ends-too : (i : ℕ) (o : Outcome) (s : Run a p) → Ends a p c i o s → (o ≡ out-of-space → ⊥) → (t : Run a p) × Ends a p d i o t × Alike s t

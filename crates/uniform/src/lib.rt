@@ -1,0 +1,2 @@
+pub mod promises;
+pub mod settings;
