@@ -3,17 +3,20 @@ use mathlib.Core.Path.{_≡_, refl, sym, ap, subst, _∙_}
 use mathlib.Core.Bool.{false}
 use mathlib.Core.Logic.{_⊎_, inl, inr, ⊎-elim}
 use mathlib.Core.List.{List, [], _∷_, _++_}
-use Prim.Native.Nat.{ℕ, zero, suc, _+_, _<_, _≤_, max}
+use Prim.Native.Nat.{ℕ, suc, _+_, _-_, _<_, _≤_, max}
 use native.Mathlib.Omega.{arith}
-use lib.ListN.{length, getD}
+use lib.ListN.{length, getD, drop}
 use Rattle.std.specs.shelf.Lists.{Has, sum}
-use Rattle.std.proofs.shelf.Tests.{cases-lt}
+use Rattle.std.proofs.shelf.Tests.{cases-lt, cases-eq}
+use Rattle.std.proofs.shelf.Lists.{at-drop-more}
 use Rattle.std.proofs.shelf.Sums.{sumBy-cons}
 use Rattle.std.proofs.shelf.Elements.{all-weaker, has-getD, has-append-right}
 use Rattle.cost.specs.Costs.{Arithmetic, NotAfter, costOf}
 use Rattle.cost.specs.Kinds.{spend, spend-then-moves, peak, tally, Tally}
 use native.Mathlib.Numerals.{one-add}
-use Rattle.cost.specs.Plans.{CheaperRests, Largest, KindCosts}
+use Rattle.cost.specs.Plans.{CheaperRests, Largest, KindCosts, PlanRefused}
+use Rattle.rows.specs.declared.refusals.Refusal.{Refusal}
+use Rattle.rows.specs.declared.refusals.Refusal.the-variants.{Price}
 
 module _ (a : Arithmetic) where
   kept : (ps qs rs : List ℕ) → NotAfter a (costOf a qs) (costOf a rs) → NotAfter a (costOf a (ps ++ qs)) (costOf a (ps ++ rs))
@@ -66,3 +69,25 @@ peak-is (p ∷ ps) = largest p ps (costOf peak ps) (peak-is ps)
 
 pub kind-costs : KindCosts
 kind-costs = record { spend-is = spend-is; spend-then-moves-is = spend-then-moves-is; peak-is = peak-is }
+
+-- one move more at the front
+pub costOf-more : (a : Arithmetic) (ps : List ℕ) (i : ℕ) (v x : a .Value) → 0 < i → i ≤ length ps → v ≡ a .joined (a .priced (getD ps (i - 1) 0)) x → x ≡ costOf a (drop i ps) → v ≡ costOf a (drop (i - 1) ps)
+costOf-more a ps i v x pos le is rest =
+    let e : i ≡ i - 1 + 1 = omega arith in
+    let p = a .priced (getD ps (i - 1) 0) in
+    is ∙ ap (a .joined p) (rest ∙ ap (λ k. costOf a (drop k ps)) e) ∙ sym (at-drop-more (costOf a) ps (i - 1) 0 (omega arith))
+
+pub payable-more : (ps : List ℕ) (i m : ℕ) → ((k : ℕ) → i ≤ k → k < length ps → getD ps k 0 ≤ m) → getD ps (i - 1) 0 ≤ m → (k : ℕ) → i - 1 ≤ k → k < length ps → getD ps k 0 ≤ m
+payable-more ps i m h here k le lt =
+    ⊎-elim
+    (λ (e : k ≡ i - 1). rw e here)
+    (λ (ne : k ≡ i - 1 → ⊥). h k (omega arith) lt)
+    (cases-eq k (i - 1))
+
+-- the one way in which a plan that is not too long is refused
+pub price-refused : (ps : List ℕ) (e : Refusal) (i n : ℕ) → length ps ≤ 65535 → 0 < i → i ≤ length ps → n + i ≡ length ps →
+    ((e ≡ Price) × (1000000000 < getD ps (i - 1) 0)) ⊎ (65535 < 1 + n) → PlanRefused ps e
+price-refused ps e i n short pos le is =
+    ⊎-elim
+    (λ h. inr (h .0, short, (i - 1, omega arith, h .1)))
+    (λ h. absurd (omega arith))
