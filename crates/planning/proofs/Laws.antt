@@ -16,6 +16,7 @@ use Rattle.rows.specs.Tasks.{MoveFits}
 use Rattle.rows.proofs.Both.{both-length}
 use Rattle.planning.specs.declared.beliefs.Belief.the-variants.{CoverAgrees, RegressedLeads, LedIsRegressed, CovererRegresses}
 use Rattle.planning.specs.Beliefs.{CoversAgree, RegressedRowsLead, LedRowsAreRegressed, CoverersRegress, BeliefsAreJudged}
+use Rattle.planning.specs.Samples.{u, open-gate}
 use Rattle.planning.proofs.Lists.{some-inj, none-some}
 
 -- one variable: g's byte b, the condition's y, the effect's x, a state's c
@@ -135,14 +136,10 @@ led-regressed values m g s s′ mf r p =
       | inr unmet ↦ none-some s′ (sym (cond-false _ (Some (overlaid (m .effect) s)) None unmet) ∙ r)
     ]
 
--- a gate with two values, a load with three: opening the shut gate regresses (open, pit) and not (undefined, pit)
-open-gate : Move
-open-gate = record { price = 2; condition = 0 ∷ 255 ∷ []; effect = 1 ∷ 255 ∷ [] }
-
+-- opening the gate of the sample line
 pub coverers-do-not : CoverersRegress → ⊥
-unfolding open-gate
 coverers-do-not f =
-    let j = f (2 ∷ 3 ∷ []) open-gate (255 ∷ 0 ∷ []) (1 ∷ 0 ∷ []) (0 ∷ 0 ∷ []) (record { price = lit≤ tt; condition = refl; effect = refl }) refl refl refl refl in
+    let j = f (2 ∷ 3 ∷ []) open-gate (u ∷ 0 ∷ []) (1 ∷ 0 ∷ []) (0 ∷ 0 ∷ []) (record { price = lit≤ tt; condition = refl; effect = refl }) refl refl refl refl in
     none-some (j .0) (j .1)
 
 pub beliefs-judged : BeliefsAreJudged

@@ -11,8 +11,9 @@ use Rattle.std.specs.declared.option.Option.{Option}
 use Rattle.std.specs.declared.option.Option.the-variants.{Some, None}
 use Rattle.rows.specs.Rows.{Row, Move, fixed, covers-at, covers, fits, applied}
 use Rattle.rows.specs.Tasks.{Task, nth, MoveFits, Accepted}
-use Rattle.planning.specs.Plans.{Leads, Path, done, then, Plan}
-use Rattle.planning.specs.Spaces.{Lawful, Route, there, Solves}
+use Rattle.cost.specs.Costs.{Arithmetic}
+use Rattle.planning.specs.Plans.{Leads, Path, done, then, Plan, Cheapest}
+use Rattle.planning.specs.Spaces.{Lawful, Route, there, Solves, Best}
 use Rattle.planning.specs.Spaces as spaces
 use Rattle.planning.specs.Regressions.{over, regression, Regresses, RegressionIsLawful}
 use Rattle.planning.proofs.Lists.{none-some, nth-none}
@@ -70,3 +71,7 @@ regression-lawful t acc = record {
   };
   plans = λ ns. (λ pl. (t .start, refl, route-of t (pl .1) (pl .2)), λ s. path-of t (subst (λ z. Route (regression t) z ns) (s .1) (s .2)));
 }
+
+-- a plan of the space that none comes before is a cheapest plan of the task
+pub best-cheapest : (a : Arithmetic) (t : Task) → Regresses t → (ns : List ℕ) → Best (regression t) a ns → Cheapest a t ns
+best-cheapest a t reg ns b = (reg .plans ns .1 (b .0), λ ms pl. b .1 ms (reg .plans ms .0 pl))

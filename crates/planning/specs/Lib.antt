@@ -1,4 +1,5 @@
 pub mod Plans
+pub mod Samples
 pub mod Beliefs
 pub mod Lists
 pub mod Spaces

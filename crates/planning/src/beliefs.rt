@@ -1,5 +1,6 @@
 ghost use mathlib.Core.Path.{_≡_};
 ghost use Rattle.planning.specs.Beliefs.{right, BeliefsAreJudged};
+ghost use Rattle.planning.specs.Samples.{SampleRegressed};
 
 // What one may believe of rows, moves and covers.
 #[derive(Drop, Copy, Clone)]
@@ -24,6 +25,7 @@ impl Belief {
     pub fn holds(self) -> bool
         ensures { λ r. ⌜ r ≡ right self ⌝ }
         ensures judged { λ _. ⌜ BeliefsAreJudged ⌝ }
+        ensures example { λ _. ⌜ SampleRegressed ⌝ }
     {
         judge();
         match self {

@@ -23,8 +23,8 @@ abbrev later : Option ℕ → Option ℕ
 later None = None
 later (Some k) = Some (suc k)
 
--- two by two
-abbrev bind : {X Y : Type 0} → Option X → Y → (X → Y) → Y
+-- by what there is, or by nothing
+abbrev pub bind : {X Y : Type 0} → Option X → Y → (X → Y) → Y
 bind None y f = y
 bind (Some x) y f = f x
 

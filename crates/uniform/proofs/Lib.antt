@@ -4,6 +4,7 @@ pub mod Fronts
 pub mod Chains
 pub mod Tallies
 pub mod Goods
-pub mod Alikes
 pub mod Computed
 pub mod Endings
+pub mod Alikes
+pub mod Lines

@@ -2,3 +2,4 @@ pub mod Runs
 pub mod Steps
 pub mod Promises
 pub mod Tellings
+pub mod Samples

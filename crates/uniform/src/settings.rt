@@ -7,5 +7,5 @@ pub trait Setting {
 
     ghost space: { Space };
 
-    ghost lawful: { Lawful space };
+    law lawful: { Lawful space };
 }
