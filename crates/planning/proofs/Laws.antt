@@ -1,7 +1,7 @@
 -- The laws of regression over rows, and the example that refutes a belief.
-use mathlib.Core.Path.{_≡_, refl, sym, _∙_, ap, subst}
-use mathlib.Core.Bool.{Bool, true, false, not, cond, _&&_, _||_}
-use mathlib.Core.Logic.{_⊎_, inl, inr, ⊎-elim}
+use mathlib.Core.Path.{_≡_, refl, sym, _∙_, subst}
+use mathlib.Core.Bool.{true, false, not, cond, _&&_}
+use mathlib.Core.Logic.{inl, inr}
 use mathlib.Core.List.{List, [], _∷_}
 use Prim.Native.Nat.{ℕ}
 use lib.Dec.{eqb, lit≤}
@@ -9,10 +9,8 @@ use lib.ListN.{length}
 use native.Mathlib.Omega.{arith}
 use Rattle.std.proofs.shelf.Ways.{tells}
 use Rattle.std.proofs.shelf.Tests.{and-parts, and-from, both-ways, cases-bool, or-parts, cond-true, cond-false}
-use Rattle.std.specs.declared.option.Option.{Option}
 use Rattle.std.specs.declared.option.Option.the-variants.{Some, None}
-use Rattle.rows.specs.Rows.{Row, Move, fixed, covers-at, covers, fits-at, fits, overlaid, hits, differ, clear, backed, regressed, applied}
-use Rattle.rows.specs.Tasks.{MoveFits}
+use Rattle.rows.specs.Rows.{Row, fixed, covers-at, covers, fits-at, fits, overlaid, hits, differ, clear, backed}
 use Rattle.rows.proofs.Both.{both-length}
 use Rattle.planning.specs.declared.beliefs.Belief.the-variants.{CoverAgrees, RegressedLeads, LedIsRegressed, CovererRegresses}
 use Rattle.planning.specs.Beliefs.{CoversAgree, RegressedRowsLead, LedRowsAreRegressed, CoverersRegress, BeliefsAreJudged}

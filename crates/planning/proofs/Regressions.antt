@@ -1,7 +1,7 @@
 -- Regression over an accepted task's rows is a lawful space, whose plans are the task's plans.
 use mathlib.Core.Path.{_≡_, refl, sym, _∙_, ap, subst}
-use mathlib.Core.Bool.{Bool, true, false, not, _||_}
-use mathlib.Core.Logic.{_⊎_, inl, inr}
+use mathlib.Core.Bool.{true, not}
+use mathlib.Core.Logic.{inl, inr}
 use mathlib.Core.List.{List, [], _∷_}
 use Prim.Native.Nat.{ℕ, _<_}
 use lib.Dec.{eqb}
@@ -10,10 +10,10 @@ use Rattle.std.proofs.shelf.Tests.{and-from, or-right, eq-eqb, cases-lt}
 use Rattle.std.specs.declared.option.Option.{Option}
 use Rattle.std.specs.declared.option.Option.the-variants.{Some, None}
 use Rattle.rows.specs.Rows.{Row, Move, fixed, covers-at, covers, fits, applied}
-use Rattle.rows.specs.Tasks.{Task, nth, MoveFits, Accepted}
+use Rattle.rows.specs.Tasks.{Task, nth, MoveFits}
 use Rattle.cost.specs.Costs.{Arithmetic}
-use Rattle.planning.specs.Plans.{Leads, Path, done, then, Plan, Cheapest}
-use Rattle.planning.specs.Spaces.{Lawful, Route, there, Solves, Best}
+use Rattle.planning.specs.Plans.{Path, done, then, Cheapest}
+use Rattle.planning.specs.Spaces.{Route, there, Best}
 use Rattle.planning.specs.Spaces as spaces
 use Rattle.planning.specs.Regressions.{over, regression, Regresses, RegressionIsLawful}
 use Rattle.planning.proofs.Lists.{none-some, nth-none}

@@ -4,9 +4,8 @@ use mathlib.Core.Bool.{Bool, true, false}
 use mathlib.Core.Logic.{_⊎_}
 use mathlib.Core.List.{List}
 use Prim.Native.Nat.{ℕ}
-use Rattle.std.specs.declared.option.Option.{Option}
-use Rattle.std.specs.declared.option.Option.the-variants.{Some, None}
-use Rattle.rows.specs.Rows.{Row, Move, covers, fits, complete, applied, regressed}
+use Rattle.std.specs.declared.option.Option.the-variants.{Some}
+use Rattle.rows.specs.Rows.{Row, Move, covers, fits, applied, regressed}
 use Rattle.rows.specs.Tasks.{MoveFits}
 use Rattle.planning.specs.declared.beliefs.Belief.{Belief}
 use Rattle.planning.specs.declared.beliefs.Belief.the-variants.{CoverAgrees, RegressedLeads, LedIsRegressed, CovererRegresses}

@@ -1,7 +1,7 @@
 -- The sample line: a gate (0 shut, 1 open) and a load (0 in the pit, 1 on the belt, 2 in the hopper). The gate is shut and the
 -- load in the pit at the start, and the load is to be in the hopper.
 use mathlib.Core.Path.{_≡_}
-use mathlib.Core.Bool.{Bool, true, false}
+use mathlib.Core.Bool.{true, false}
 use mathlib.Core.List.{List, [], _∷_}
 use Prim.Native.Nat.{ℕ}
 use Rattle.std.specs.declared.option.Option.{Option}

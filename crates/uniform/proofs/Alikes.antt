@@ -1,20 +1,20 @@
 -- Runs of two capacities go alike until the first ends.
 use mathlib.Core.Path.{_≡_, refl, sym, _∙_, ap, subst}
-use mathlib.Core.Bool.{Bool, true, false}
-use mathlib.Core.Logic.{_⊎_, inl, inr, ⊎-elim}
-use mathlib.Core.List.{List, [], _∷_, _++_}
-use Prim.Native.Nat.{ℕ, zero, suc, _+_, _<_, _≤_}
+use mathlib.Core.Bool.{true, false}
+use mathlib.Core.Logic.{inl, inr}
+use mathlib.Core.List.{[], _∷_, _++_}
+use Prim.Native.Nat.{ℕ, _<_, _≤_}
 use native.Mathlib.Omega.{arith}
 use lib.ListN.{length}
-use Rattle.std.specs.declared.option.Option.the-variants.{Some, None}
+use Rattle.std.specs.declared.option.Option.the-variants.{Some}
 use Rattle.std.proofs.shelf.Tests.{both-ways, cases-eq, cases-lt}
 use Rattle.rows.specs.Tasks.{nth}
-use Rattle.cost.specs.Costs.{Arithmetic, NotAfter}
+use Rattle.cost.specs.Costs.{Arithmetic}
 use Rattle.planning.specs.Lists.{In}
 use Rattle.planning.specs.Spaces.{Space, Lawful}
 use Rattle.planning.proofs.Lists.{some-inj, none-some}
-use Rattle.uniform.specs.Runs.{Node, Run, opened, CoverAt, Uncovered, Least, answered, taken, keeping, storing, child, without}
-use Rattle.uniform.specs.Steps.{Outcome, skipped, expanded, found, no-plan, out-of-space, going, One, unmoved, covered, stored, Upto, none, more, Crowded, Step, ends, skips, finds, expands, crowds, After, opening, onward, Ends}
+use Rattle.uniform.specs.Runs.{Node, Run, CoverAt, Uncovered, Least, taken, keeping, child, without}
+use Rattle.uniform.specs.Steps.{Outcome, found, out-of-space, going, One, unmoved, covered, stored, Upto, none, more, Crowded, Step, ends, skips, finds, expands, crowds, After, opening, onward, Ends}
 use Rattle.uniform.specs.Promises.{Alike, GoAlike}
 use Rattle.uniform.proofs.Endings.{ends-by}
 

@@ -1,15 +1,15 @@
 -- A step computed: the first cover is answered. So every run can go on to an ending.
 use mathlib.Core.Path.{_≡_, refl, sym, _∙_, ap, subst}
 use mathlib.Core.Bool.{Bool, true, false, not, cond, _&&_, _||_}
-use mathlib.Core.Logic.{_⊎_, inl, inr, ⊎-elim}
-use mathlib.Core.List.{List, [], _∷_, _++_}
+use mathlib.Core.Logic.{_⊎_, inl, inr}
+use mathlib.Core.List.{List, [], _∷_}
 use Prim.Native.Nat.{ℕ, zero, suc, _+_, _<_, _≤_}
 use native.Mathlib.Omega.{arith}
 use lib.Dec.{ltb}
 use lib.ListN.{length}
 use Rattle.std.specs.declared.option.Option.{Option}
 use Rattle.std.specs.declared.option.Option.the-variants.{Some, None}
-use Rattle.std.proofs.shelf.Tests.{both-ways, cases-bool, cond-both, or-cases, or-parts, and-parts, and-cases, ltb-true, ltb-false, not-true}
+use Rattle.std.proofs.shelf.Tests.{both-ways, cond-both, or-cases, or-parts, and-parts, and-cases, ltb-true, ltb-false, not-true}
 use Rattle.rows.specs.Tasks.{nth}
 use Rattle.cost.specs.Costs.{Arithmetic, NotAfter}
 use Rattle.planning.specs.Lists.{In}

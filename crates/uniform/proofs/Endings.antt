@@ -1,19 +1,17 @@
 -- Steps computed from the opening on, and that a run ends.
-use mathlib.Core.Path.{_≡_, refl, sym, _∙_, ap, subst}
-use mathlib.Core.Bool.{Bool, true, false, cond}
-use mathlib.Core.Logic.{_⊎_, inl, inr, ⊎-elim}
-use Prim.Native.Nat.{ℕ, zero, suc, _+_, _<_, _≤_}
+use mathlib.Core.Path.{_≡_, refl}
+use mathlib.Core.Bool.{true, false, cond}
+use mathlib.Core.Logic.{inl, inr}
+use Prim.Native.Nat.{ℕ, zero, suc, _+_, _<_}
 use native.Mathlib.Omega.{arith}
-use lib.ListN.{length}
 use Rattle.std.proofs.shelf.Tests.{both-ways, cases-bool, cond-both}
 use Rattle.cost.specs.Costs.{Arithmetic}
-use Rattle.planning.specs.Lists.{In}
 use Rattle.planning.specs.Spaces.{Space, Lawful}
-use Rattle.uniform.specs.Runs.{Node, Run, opened}
+use Rattle.uniform.specs.Runs.{Run, opened}
 use Rattle.uniform.specs.Steps.{Outcome, skipped, going, Step, After, opening, onward, Ends}
 use Rattle.uniform.specs.Promises.{EndsBy}
 use Rattle.uniform.proofs.Goods.{after-good}
-use Rattle.uniform.proofs.Computed.{Went, stepped, stepped-is}
+use Rattle.uniform.proofs.Computed.{stepped, stepped-is}
 
 module _ (a : Arithmetic) (p : Space) (cap : ℕ) where
   pub record Ran : Type 0 where

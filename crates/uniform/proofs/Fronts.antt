@@ -1,22 +1,22 @@
 -- What steps keep: the search is closed, no kept row comes after what waits, and no kept row holds where a plan may begin.
 use mathlib.Core.Path.{_≡_, refl, sym, _∙_, ap, subst}
-use mathlib.Core.Bool.{Bool, true, false}
-use mathlib.Core.Logic.{_⊎_, inl, inr, ⊎-elim}
+use mathlib.Core.Bool.{true, false}
+use mathlib.Core.Logic.{_⊎_, inl, inr}
 use mathlib.Core.List.{List, [], _∷_, _++_, map}
-use Prim.Native.Nat.{ℕ, _+_, _<_, _≤_}
+use Prim.Native.Nat.{ℕ, _+_, _<_}
 use native.Mathlib.Omega.{arith}
 use lib.ListN.{length, length-append}
-use Rattle.std.specs.declared.option.Option.the-variants.{Some, None}
+use Rattle.std.specs.declared.option.Option.the-variants.{Some}
 use Rattle.std.proofs.shelf.Tests.{both-ways}
 use Rattle.rows.specs.Tasks.{nth}
 use Rattle.cost.specs.Costs.{Arithmetic, NotAfter}
 use Rattle.planning.specs.Lists.{In}
-use Rattle.planning.specs.Spaces.{Space, Lawful, Route, Solves, worth}
+use Rattle.planning.specs.Spaces.{Space, Lawful, Solves, worth}
 use Rattle.planning.proofs.Lists.{some-inj, none-some, nth-below, nth-in, nth-left, nth-push, in-push, in-left, in-last}
-use Rattle.uniform.specs.Runs.{Node, Run, opened, root, CoverAt, Uncovered, Least, answered, taken, keeping, storing, child, without}
+use Rattle.uniform.specs.Runs.{Node, Run, opened, root, CoverAt, Least, answered, taken, keeping, storing, child}
 use Rattle.uniform.specs.Steps.{One, unmoved, covered, stored, Upto, none, more}
 use Rattle.uniform.proofs.Waits.{in-without, without-or, map-push, in-map}
-use Rattle.uniform.proofs.Reach.{reflexive, onto, Seen, by-kept, by-waiting, Closed, Closing, Or, other, it, kept-holds, waits, reach}
+use Rattle.uniform.proofs.Reach.{reflexive, onto, by-kept, by-waiting, Closed, Closing, Or, other, it, kept-holds, waits, reach}
 use Rattle.uniform.proofs.Reach as reach
 
 module _ (a : Arithmetic) (p : Space) (law : Lawful p) where

@@ -1,22 +1,19 @@
 -- What every run keeps from the opening on, and what its endings mean.
-use mathlib.Core.Path.{_≡_, refl, sym, _∙_, ap, subst}
-use mathlib.Core.Bool.{Bool, true, false}
-use mathlib.Core.Logic.{_⊎_, inl, inr, ⊎-elim}
+use mathlib.Core.Path.{_≡_, refl, subst}
+use mathlib.Core.Bool.{true, false}
 use mathlib.Core.List.{List, [], _∷_, _++_}
 use Prim.Native.Nat.{ℕ, _+_, _<_, _≤_}
 use native.Mathlib.Omega.{arith}
 use lib.ListN.{length}
-use Rattle.std.specs.declared.option.Option.the-variants.{Some, None}
 use Rattle.std.proofs.shelf.Tests.{both-ways}
-use Rattle.rows.specs.Tasks.{nth}
 use Rattle.cost.specs.Costs.{Arithmetic, NotAfter}
-use Rattle.planning.specs.Spaces.{Space, Lawful, Solves, worth, Best}
+use Rattle.planning.specs.Spaces.{Space, Lawful, Solves, worth}
 use Rattle.planning.proofs.Lists.{nth-below}
-use Rattle.uniform.specs.Runs.{Node, Run, opened, Least, Reads}
+use Rattle.uniform.specs.Runs.{Node, Run}
 use Rattle.uniform.specs.Steps.{Outcome, skipped, expanded, found, no-plan, out-of-space, going, Step, ends, skips, finds, expands, crowds, After, opening, onward, Ends}
-use Rattle.uniform.specs.Promises.{most, FoundIsCheapest, NoPlanIsNone, FewNodes, JoinsFew}
+use Rattle.uniform.specs.Promises.{most, ReadsBest, FoundIsCheapest, NoPlanIsNone, RunsAreOrderly, FewNodes, JoinsFew}
 use Rattle.uniform.proofs.Fronts.{Front, front-opened, front-skip, front-keep, front-spread, mid-upto, least-first, none-missed}
-use Rattle.uniform.proofs.Chains.{Chain, Chains, chains-opened, chains-upto, reads-length, reads-unique}
+use Rattle.uniform.proofs.Chains.{Chains, chains-opened, chains-upto, reads-length, reads-unique}
 use Rattle.uniform.proofs.Tallies.{Tally, tally-few, tally-skip, tally-spread, tally-crowd, tally-opened}
 
 module _ (a : Arithmetic) (p : Space) (law : Lawful p) where
@@ -30,7 +27,7 @@ module _ (a : Arithmetic) (p : Space) (law : Lawful p) where
   abbrev Next : ℕ → ℕ → Outcome → Run a p → Type 0
   Next cap i skipped t = Good cap (i + 1) t
   Next cap i expanded t = Good cap (i + 1) t
-  Next cap i (found n) t = ((ns : List ℕ) × Reads a p (t .nodes) n ns × Best p a ns) × (length (t .nodes) ≤ 1 + most p)
+  Next cap i (found n) t = ReadsBest a p (t .nodes) n × (length (t .nodes) ≤ 1 + most p)
   Next cap i no-plan t = ((ns : List ℕ) → Solves p ns → ⊥) × (length (t .nodes) ≤ 1 + most p)
   Next cap i out-of-space t = (cap ≤ length (t .nodes)) × (length (t .nodes) < 1 + most p)
 
@@ -40,12 +37,22 @@ module _ (a : Arithmetic) (p : Space) (law : Lawful p) where
     spread = g .spread;
     front = front-skip a p law (g .front) l c;
     chains = g .chains;
-    tally = (let t = tally-skip a p law (g .tally) l in record { steps = t .steps; within = t .within; stored = t .stored; apart = t .apart; fit = t .fit });
+    tally = (let t = tally-skip a p law (g .tally) l in record { steps = t .steps; within = t .within; stored = t .stored; each = t .each; apart = t .apart; fit = t .fit });
   }
   step-next g (finds {n} {x} l un m) =
       let c = g .chains n x (l .node) in
-      let w = law .met (x .row) m in
-      ((c .moves, c .reads, ((w .0, w .1, c .leads (w .0) (w .2)), λ ms sol. subst (λ z. NotAfter a z (worth p a ms)) (c .cost) (least-first a p law (g .front) l sol))), tally-few a p law (g .tally))
+      let w = law .met (x .row) m in (
+        record {
+          moves = c .moves;
+          reads = c .reads;
+          only = λ ms r. reads-unique a p r (c .reads) refl;
+          best = ((w .0, w .1, c .leads (w .0) (w .2)), λ ms sol. subst (λ z. NotAfter a z (worth p a ms)) (c .cost) (least-first a p law (g .front) l sol));
+          node = x;
+          there = l .node;
+          cost = c .cost;
+        },
+        tally-few a p law (g .tally),
+      )
   step-next g (expands {n} {x} l un far us) =
       let c = g .chains n x (l .node) in
       record {
@@ -73,9 +80,7 @@ module _ (a : Arithmetic) (p : Space) (law : Lawful p) where
   ends-next e = step-next (after-good (e .after)) (e .step)
 
   pub found-cheapest : FoundIsCheapest a p
-  found-cheapest cap i n t e =
-      let h = ends-next e .0 in
-      (h .0, h .1, h .2, λ ms r. reads-unique a p r (h .1) refl)
+  found-cheapest cap i n t e = ends-next e .0
 
   pub no-plan-none : NoPlanIsNone a p
   no-plan-none cap i t ns e sol = ends-next e .0 ns sol
@@ -98,6 +103,18 @@ module _ (a : Arithmetic) (p : Space) (law : Lawful p) where
     steps = still;
     steps-at-end = λ cap i o t e. let b = still cap (e .before) (e .last) (e .after) in omega (arith, e .count);
   }
+
+  pub runs-orderly : RunsAreOrderly a p
+  runs-orderly cap i s af =
+      let g = after-good af in
+      let t = g .tally in
+      record {
+        within = t .within;
+        counted = omega (arith, t .steps, t .each);
+        stored = g .front .numbers;
+        fit = λ n x at. g .chains n x at .fit;
+        apart = t .apart;
+      }
 
   pub joins-few : (n : ℕ) → JoinsFew a p n n
   joins-few n cap i s x af at =

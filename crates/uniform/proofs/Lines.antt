@@ -1,10 +1,8 @@
 -- The sample line's runs, computed.
-use mathlib.Core.Path.{_≡_, refl, sym, _∙_, ap, subst}
-use mathlib.Core.Bool.{Bool, true, false, cond, _&&_}
-use mathlib.Core.Logic.{_⊎_, inl, inr}
+use mathlib.Core.Path.{_≡_, refl, sym, subst}
+use mathlib.Core.Bool.{Bool, true, false, _&&_}
 use mathlib.Core.List.{List, [], _∷_}
-use Prim.Native.Nat.{ℕ, zero, suc, _+_, _<_, _≤_}
-use native.Mathlib.Omega.{arith}
+use Prim.Native.Nat.{ℕ, zero, suc, _<_}
 use lib.Dec.{eqb, ltb, leb}
 use lib.ListN.{length}
 use Rattle.std.specs.declared.option.Option.{Option}
@@ -113,7 +111,7 @@ module _ (k : Kind) (t : Task) where
       let r = chain-is (arithmetic k) (regression t) (s .nodes) n ns (b .0) in
       let x = costs-is c (nth (s .nodes) n) (b .1) in
       let g = found-cheapest (arithmetic k) (regression t) (reg .lawful) cap steps n s (f refl) in
-      (n, x .0, f refl, r, x .1, x .2, best-cheapest (arithmetic k) t reg ns (subst (λ z. Best (regression t) (arithmetic k) z) (sym (g .3 ns r)) (g .2)))
+      (n, x .0, f refl, r, x .1, x .2, best-cheapest (arithmetic k) t reg ns (subst (λ z. Best (regression t) (arithmetic k) z) (sym (g .only ns r)) (g .best)))
   ended-is cap steps (plan c ns) no-plan s reg f h = unlike h
   ended-is cap steps (plan c ns) out-of-space s reg f h = unlike h
   ended-is cap steps no-plan-told skipped s reg f h = unlike h

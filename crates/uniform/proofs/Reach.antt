@@ -1,14 +1,14 @@
 -- Why uniform-cost search with cover misses no cheaper plan: if every kept row's results, and the goal, are seen (covered by a
 -- row that is kept or waits, at no more than their cost), then each route to the goal is met by a waiting node that costs no
 -- more, or by a kept row that holds there at no more cost.
-use mathlib.Core.Path.{_≡_, refl, sym, subst}
-use mathlib.Core.Bool.{true, false}
-use mathlib.Core.Logic.{_⊎_, inl, inr, ⊎-elim}
-use mathlib.Core.List.{List, [], _∷_}
+use mathlib.Core.Path.{_≡_, sym, subst}
+use mathlib.Core.Bool.{true}
+use mathlib.Core.Logic.{inl, inr, ⊎-elim}
+use mathlib.Core.List.{List}
 use Prim.Native.Nat.{ℕ, _+_, _<_}
 use native.Mathlib.Omega.{arith}
 use Rattle.std.proofs.shelf.Tests.{cases-eq}
-use Rattle.std.specs.declared.option.Option.the-variants.{Some, None}
+use Rattle.std.specs.declared.option.Option.the-variants.{Some}
 use Rattle.cost.specs.Costs.{Arithmetic, NotAfter}
 use Rattle.planning.specs.Spaces.{Space, Lawful, Route, there, then, worth}
 use Rattle.uniform.specs.Runs.{Node}

@@ -1,19 +1,18 @@
 -- How many nodes are stored, rows kept and steps done.
 use mathlib.Core.Path.{_≡_, refl, sym, _∙_, ap, subst}
-use mathlib.Core.Bool.{Bool, true, false}
-use mathlib.Core.Logic.{_⊎_, inl, inr, ⊎-elim}
+use mathlib.Core.Bool.{true}
+use mathlib.Core.Logic.{inl, inr}
 use mathlib.Core.List.{List, [], _∷_, _++_}
-use Prim.Native.Nat.{ℕ, zero, suc, _+_, _*_, _<_, _≤_}
+use Prim.Native.Nat.{ℕ, _+_, _*_, _<_, _≤_}
 use native.Mathlib.Omega.{arith}
 use native.Mathlib.Nat.{mul-le-mul-left, mul-add, mul-comm}
 use lib.ListN.{length, length-append}
-use Rattle.std.specs.declared.option.Option.the-variants.{Some, None}
 use Rattle.cost.specs.Costs.{Arithmetic}
 use Rattle.planning.specs.Lists.{In, Distinct}
 use Rattle.planning.specs.Spaces.{Space, Lawful}
 use Rattle.planning.proofs.Lists.{in-nth, in-push, distinct-push}
-use Rattle.uniform.specs.Runs.{Node, Run, opened, CoverAt, Uncovered, Least, taken, keeping, storing, child, without}
-use Rattle.uniform.specs.Steps.{One, unmoved, covered, stored, Upto, none, more, Crowded}
+use Rattle.uniform.specs.Runs.{Node, Run, opened, Uncovered, Least, taken, keeping, child}
+use Rattle.uniform.specs.Steps.{One, unmoved, covered, stored, Upto, none, more}
 use Rattle.uniform.specs.Promises.{most}
 use Rattle.uniform.proofs.Waits.{length-without}
 
@@ -23,6 +22,7 @@ module _ (a : Arithmetic) (p : Space) (law : Lawful p) where
     pub steps : i + length (s .waiting) ≡ length (s .nodes)
     pub within : length (s .nodes) ≤ cap
     pub stored : length (s .nodes) ≤ 1 + p .moves * length (s .kept)
+    pub each : length (s .kept) ≤ i
     pub apart : Distinct (s .kept)
     pub fit : (r : p .Row) → In r (s .kept) → p .fits r ≡ true
 
@@ -68,6 +68,7 @@ module _ (a : Arithmetic) (p : Space) (law : Lawful p) where
     steps = omega (arith, t .steps, length-without n (s .waiting) (l .waits));
     within = t .within;
     stored = t .stored;
+    each = omega (arith, t .each);
     apart = t .apart;
     fit = t .fit;
   }
@@ -82,6 +83,7 @@ module _ (a : Arithmetic) (p : Space) (law : Lawful p) where
         steps = omega (arith, ta .steps, length-without n (s .waiting) (l .waits), c .grown);
         within = c .within;
         stored = omega (arith, c .few, ta .stored, ap (λ z. p .moves * z) kl, mul-add (p .moves) (length (s .kept)) 1);
+        each = omega (arith, ta .each);
         apart = subst (λ z. Distinct z) (sym (c .kept)) (apart-more (s .kept) (x .row) (ta .apart) un);
         fit = subst (λ z. (q : p .Row) → In q z → p .fits q ≡ true) (sym (c .kept)) (fit-more (s .kept) (x .row) (ta .fit) fr);
       }
@@ -97,4 +99,4 @@ module _ (a : Arithmetic) (p : Space) (law : Lawful p) where
       omega (arith, c .few, ta .stored, mul-le-mul-left (p .moves) le, mul-add (p .moves) (length (s .kept)) 1, mul-comm (p .moves) (p .many))
 
   pub tally-opened : {cap : ℕ} → 0 < cap → Tally cap 0 (opened a p)
-  tally-opened pos = record { steps = refl; within = omega arith; stored = omega arith; apart = tt; fit = λ r i. absurd i }
+  tally-opened pos = record { steps = refl; within = omega arith; stored = omega arith; each = omega arith; apart = tt; fit = λ r i. absurd i }

@@ -1,12 +1,13 @@
 -- What is promised of every run, over any arithmetic and any lawful space.
 use mathlib.Core.Path.{_≡_}
-use mathlib.Core.Logic.{_⊎_}
+use mathlib.Core.Bool.{true}
 use mathlib.Core.List.{List}
 use Prim.Native.Nat.{ℕ, _+_, _*_, _<_, _≤_}
 use lib.ListN.{length}
 use Rattle.std.specs.declared.option.Option.the-variants.{Some}
 use Rattle.rows.specs.Tasks.{nth}
 use Rattle.cost.specs.Costs.{Arithmetic}
+use Rattle.planning.specs.Lists.{In, Distinct}
 use Rattle.planning.specs.Spaces.{Space, Solves, worth, Best}
 use Rattle.uniform.specs.Runs.{Node, Run, Reads}
 use Rattle.uniform.specs.Steps.{Outcome, found, no-plan, out-of-space, After, Ends}
@@ -22,14 +23,36 @@ pub record Alike {a : Arithmetic} {p : Space} (s t : Run a p) : Type 0 where
   pub waiting : s .waiting ≡ t .waiting
 
 module _ (a : Arithmetic) (p : Space) where
-  -- the moves read from a found node are a plan that none comes before
+  -- the moves read from node n are a plan that none comes before, and the node's cost is the plan's
+  pub record ReadsBest (nodes : List (Node a p)) (n : ℕ) : Type 0 where
+    pub moves : List ℕ
+    pub reads : Reads a p nodes n moves
+    pub only : (ms : List ℕ) → Reads a p nodes n ms → ms ≡ moves
+    pub best : Best p a moves
+    pub node : Node a p
+    pub there : nth nodes n ≡ Some node
+    pub cost : node .cost ≡ worth p a moves
+
+  -- the moves read from a found node are a cheapest plan
   abbrev pub FoundIsCheapest : Type 0
-  FoundIsCheapest = (cap i n : ℕ) (t : Run a p) → Ends a p cap i (found n) t
-      → (ns : List ℕ) × Reads a p (t .nodes) n ns × Best p a ns × ((ms : List ℕ) → Reads a p (t .nodes) n ms → ms ≡ ns)
+  FoundIsCheapest = (cap i n : ℕ) (t : Run a p) → Ends a p cap i (found n) t → ReadsBest (t .nodes) n
 
   -- "no plan" is told only if there is none
   abbrev pub NoPlanIsNone : Type 0
   NoPlanIsNone = (cap i : ℕ) (t : Run a p) (ns : List ℕ) → Ends a p cap i no-plan t → Solves p ns → ⊥
+
+  -- what a run that goes on holds: no more nodes than its capacity, and no more kept rows and waiting nodes than nodes, so that
+  -- neither kept rows nor waiting nodes ever need more space than the nodes; every node that waits is stored, every stored row
+  -- fits, and the kept rows are distinct
+  pub record Orderly (cap : ℕ) (s : Run a p) : Type 0 where
+    pub within : length (s .nodes) ≤ cap
+    pub counted : length (s .kept) + length (s .waiting) ≤ length (s .nodes)
+    pub stored : (n : ℕ) → In n (s .waiting) → n < length (s .nodes)
+    pub fit : (n : ℕ) (x : Node a p) → nth (s .nodes) n ≡ Some x → p .fits (x .row) ≡ true
+    pub apart : Distinct (s .kept)
+
+  abbrev pub RunsAreOrderly : Type 0
+  RunsAreOrderly = (cap i : ℕ) (s : Run a p) → After a p cap i s → Orderly cap s
 
   -- there are at most 1 + P × M nodes; with space for so many a run never is out of space; and it ends by step 2 + P × M
   pub record FewNodes : Type 0 where

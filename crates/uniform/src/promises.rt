@@ -1,9 +1,7 @@
 ghost use mathlib.Core.Path.{_≡_};
-ghost use mathlib.Core.Bool.{true};
-ghost use Prim.Native.Nat.{_+_, _*_, _<_, _≤_};
+ghost use Prim.Native.Nat.{_+_, _≤_};
 ghost use lib.Dec.{leb};
-ghost use Rattle.std.specs.declared.option.Option.the-variants.{Some, None};
-ghost use Rattle.uniform.specs.Promises.{FoundIsCheapest, NoPlanIsNone, FewNodes, EndsBy, JoinsFew, GoAlike};
+ghost use Rattle.uniform.specs.Promises.{FoundIsCheapest, NoPlanIsNone, RunsAreOrderly, FewNodes, EndsBy, JoinsFew, GoAlike};
 ghost use Rattle.uniform.specs.Tellings.{tells, rooms};
 use crate::settings::Setting;
 
@@ -43,15 +41,17 @@ pub fn tells<S: Setting>(ending: Ending) -> Option<bool>
     }
 }
 
-// Holds the proof of how many nodes there can be.
+// Holds the proof of how many nodes there can be, and of what a run holds.
 fn few_nodes<S: Setting>()
-    ensures { λ _. ⌜ FewNodes (S·Setting .arithmetic) (S·Setting .space) ⌝ }
+    ensures few { λ _. ⌜ FewNodes (S·Setting .arithmetic) (S·Setting .space) ⌝ }
+    ensures orderly { λ _. ⌜ RunsAreOrderly (S·Setting .arithmetic) (S·Setting .space) ⌝ }
 {}
 
 // The capacity with which a run is never out of space, 1 + P × M for P distinct rows and M moves; nothing where 64 bits do not hold it.
 pub fn ample_capacity<S: Setting>(rows: u64, moves: u64) -> Option<u64>
     ensures { λ r. ⌜ r ≡ rooms rows moves ⌝ }
     ensures few { λ _. ⌜ FewNodes (S·Setting .arithmetic) (S·Setting .space) ⌝ }
+    ensures orderly { λ _. ⌜ RunsAreOrderly (S·Setting .arithmetic) (S·Setting .space) ⌝ }
 {
     few_nodes::<S>();
     match rows.checked_mul(moves) {
