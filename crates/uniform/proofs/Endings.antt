@@ -54,6 +54,7 @@ module _ (a : Arithmetic) (p : Space) (law : Lawful p) (cap : ℕ) where
 
   pub ends-by : EndsBy a p cap (cap + 1)
   ends-by = record {
+    next = λ i s af. (stepped a p cap s .how, stepped a p cap s .run, next af);
     some = λ pos. ends-some (cap + 1) 0 (opened a p) (opening pos) (omega arith);
     still = still;
     at-end = λ i o t e. let b = still (e .before) (e .last) (e .after) in omega (arith, e .count);

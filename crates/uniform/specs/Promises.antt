@@ -10,7 +10,7 @@ use Rattle.cost.specs.Costs.{Arithmetic}
 use Rattle.planning.specs.Lists.{In, Distinct}
 use Rattle.planning.specs.Spaces.{Space, Solves, worth, Best}
 use Rattle.uniform.specs.Runs.{Node, Run, Reads}
-use Rattle.uniform.specs.Steps.{Outcome, found, no-plan, out-of-space, After, Ends}
+use Rattle.uniform.specs.Steps.{Outcome, found, no-plan, out-of-space, Step, After, Ends}
 
 -- P × M: the number of distinct rows that fit times that of moves
 abbrev pub most : Space → ℕ
@@ -62,8 +62,10 @@ module _ (a : Arithmetic) (p : Space) where
     pub steps : (cap i : ℕ) (s : Run a p) → After a p cap i s → i < 2 + most p
     pub steps-at-end : (cap i : ℕ) (o : Outcome) (t : Run a p) → Ends a p cap i o t → i ≤ 2 + most p
 
-  -- a run of this capacity ends by a step: it can always go on to an ending, and is never still going on after that step
+  -- a run of this capacity ends by a step: while it goes on there is a next step, it is never still going on after that last
+  -- one, and so there is an ending
   pub record EndsBy (cap last : ℕ) : Type 0 where
+    pub next : (i : ℕ) (s : Run a p) → After a p cap i s → (o : Outcome) × (t : Run a p) × Step a p cap s o t
     pub some : 0 < cap → (i : ℕ) × (o : Outcome) × (t : Run a p) × Ends a p cap i o t
     pub still : (i : ℕ) (s : Run a p) → After a p cap i s → i < last
     pub at-end : (i : ℕ) (o : Outcome) (t : Run a p) → Ends a p cap i o t → i ≤ last
