@@ -1,1 +1,4 @@
 pub mod Costs
+pub mod Limits
+pub mod Kinds
+pub mod Plans

@@ -1,0 +1,4 @@
+pub mod costs;
+pub mod kinds;
+pub mod limits;
+pub mod plans;

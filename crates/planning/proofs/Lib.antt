@@ -1,0 +1,5 @@
+pub mod Lists
+pub mod Laws
+pub mod Fits
+pub mod Counts
+pub mod Regressions

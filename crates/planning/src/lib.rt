@@ -1,0 +1,2 @@
+pub mod beliefs;
+pub mod spaces;

@@ -1,0 +1,5 @@
+pub mod Runs
+pub mod Steps
+pub mod Promises
+pub mod Tellings
+pub mod Samples

@@ -1,0 +1,3 @@
+pub mod promises;
+pub mod samples;
+pub mod settings;
