@@ -1,0 +1,3 @@
+pub mod Order
+pub mod Fronts
+pub mod Scans

@@ -1,0 +1,4 @@
+pub mod entries;
+pub mod places;
+pub mod queues;
+pub mod scanned_row;
