@@ -1,3 +1,5 @@
 pub mod Order
 pub mod Fronts
 pub mod Scans
+pub mod Sifts
+pub mod HeapRows

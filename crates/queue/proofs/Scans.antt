@@ -31,23 +31,23 @@ module _ {K : Type 0} (C : cost.Ghosts K) (xs : List (Entry K)) where
         subst (λ (j : ℕ). goes C (getD xs k d) (getD xs j d) ≡ false) e (goes-refl C (getD xs k d));
   }
 
-  pub leads-kept : (i b : ℕ) (x y : Entry K) → i < length xs → Leads C xs i b → x ≡ getD xs i x → y ≡ getD xs b y → goes C x y ≡ false → Leads C xs (i + 1) b
+  pub leads-kept : (i b : ℕ) (x y : Entry K) → i < length xs → Leads C xs i b → x ≡ getD xs i x → y ≡ getD xs b y → false ≡ goes C x y → Leads C xs (i + 1) b
   leads-kept i b x y h l rx ry n =
       let hb : b < length xs = omega (arith, l .below) in
       record {
         below = omega (arith, l .below);
         least = λ k d. below-more (λ k. goes C (getD xs k d) (getD xs b d) ≡ false) i (λ k h. l .least k d h)
-            (rw (← getD-read xs i x h rx d, ← getD-read xs b y hb ry d) n) k;
+            (rw (← getD-read xs i x h rx d, ← getD-read xs b y hb ry d) (sym n)) k;
       }
 
-  pub leads-moved : (i b : ℕ) (x y : Entry K) → i < length xs → Leads C xs i b → x ≡ getD xs i x → y ≡ getD xs b y → goes C x y ≡ true → Leads C xs (i + 1) i
+  pub leads-moved : (i b : ℕ) (x y : Entry K) → i < length xs → Leads C xs i b → x ≡ getD xs i x → y ≡ getD xs b y → true ≡ goes C x y → Leads C xs (i + 1) i
   leads-moved i b x y h l rx ry y′ =
       let hb : b < length xs = omega (arith, l .below) in
       record {
         below = omega arith;
         least = λ k d. below-more (λ k. goes C (getD xs k d) (getD xs i d) ≡ false) i
             (λ k h′. goes-trans C (getD xs i d) (getD xs b d) (getD xs k d)
-            (rw (← getD-read xs i x h rx d, ← getD-read xs b y hb ry d) (goes-asym C x y y′)) (l .least k d h′))
+            (rw (← getD-read xs i x h rx d, ← getD-read xs b y hb ry d) (goes-asym C x y (sym y′))) (l .least k d h′))
             (goes-refl C (getD xs i d)) k;
       }
 

@@ -1,3 +1,4 @@
 pub mod Orders
 pub mod Places
+pub mod Heaps
 pub mod Makes

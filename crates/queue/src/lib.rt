@@ -1,4 +1,5 @@
 pub mod entries;
+pub mod heap;
 pub mod places;
 pub mod queues;
 pub mod scanned_row;

@@ -20,7 +20,7 @@ loop-i-again g c =
     let y = c .index-row-best in
     elim (c .if-goes-before .came) [
       | then-goes-before w ↦ subst (λ (b : ℕ). Leads C xs (i + 1) b) (sym (w .best-is))
-          (leads-moved C xs i (c .loop-i .best) (x .result) (y .result) h (c .loop-i .inv) (x .is) (y .is) (sym (w .if-goes-before .ensures tt)))
+          (leads-moved C xs i (c .loop-i .best) (x .result) (y .result) h (c .loop-i .inv) (x .is) (y .is) (w .if-goes-before .ensures tt))
       | else-goes-before w ↦ subst (λ (b : ℕ). Leads C xs (i + 1) b) (sym (w .best-is))
-          (leads-kept C xs i (c .loop-i .best) (x .result) (y .result) h (c .loop-i .inv) (x .is) (y .is) (sym (w .if-goes-before .ensures tt)))
+          (leads-kept C xs i (c .loop-i .best) (x .result) (y .result) h (c .loop-i .inv) (x .is) (y .is) (w .if-goes-before .ensures tt))
     ]
