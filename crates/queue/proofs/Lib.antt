@@ -3,3 +3,4 @@ pub mod Fronts
 pub mod Scans
 pub mod Sifts
 pub mod HeapRows
+pub mod Runs

@@ -1,3 +1,4 @@
+pub mod batches;
 pub mod entries;
 pub mod heap;
 pub mod places;
