@@ -1,5 +1,4 @@
 pub mod Orders
 pub mod Places
-pub mod Heaps
 pub mod Makes
 pub mod Batches

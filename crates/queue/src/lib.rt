@@ -1,6 +1,5 @@
 pub mod batches;
 pub mod entries;
-pub mod heap;
 pub mod places;
 pub mod queues;
 pub mod scanned_row;

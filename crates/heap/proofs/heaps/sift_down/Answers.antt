@@ -2,8 +2,8 @@ use mathlib.Core.Path.{sym}
 use native.Mathlib.Omega.{arith}
 use borrow.Author.Needs.{needs}
 use Rattle.std.proofs.shelf.Sorted.{shuffled-refl}
-use Rattle.queue.proofs.HeapRows.{exchanged-shuffles, sinking-start, sinking-step, sinking-done, sinking-end}
-use Rattle.queue.proofs.heap.sift_down.Needs as need
+use Rattle.heap.proofs.HeapRows.{exchanged-shuffles, sinking-start, sinking-step, sinking-done, sinking-end}
+use Rattle.heap.proofs.heaps.sift_down.Needs as need
 
 pub loop-at-holds : need.loop-at-holds
 loop-at-holds g c = (shuffled-refl _, sinking-start (g .K·Cost) _ _)

@@ -2,8 +2,8 @@ use mathlib.Core.Path.{sym}
 use native.Mathlib.Omega.{arith}
 use borrow.Author.Needs.{needs}
 use Rattle.std.proofs.shelf.Sorted.{shuffled-refl}
-use Rattle.queue.proofs.HeapRows.{exchanged-shuffles, raising-start, raising-step, raising-done}
-use Rattle.queue.proofs.heap.sift_up.Needs as need
+use Rattle.heap.proofs.HeapRows.{exchanged-shuffles, raising-start, raising-step, raising-done}
+use Rattle.heap.proofs.heaps.sift_up.Needs as need
 
 pub loop-at-holds : need.loop-at-holds
 loop-at-holds g c = (omega arith, shuffled-refl _, raising-start (g .K·Cost) _ _)

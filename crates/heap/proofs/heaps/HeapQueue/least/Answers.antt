@@ -1,8 +1,8 @@
 use mathlib.Core.Path.{sym}
 use Rattle.queue.proofs.Fronts.{some-front}
 use Rattle.queue.proofs.Scans.{names-at}
-use Rattle.queue.proofs.HeapRows.{heaped-at}
-use Rattle.queue.proofs.heap.HeapQueue.least.Needs as need
+use Rattle.heap.proofs.HeapRows.{heaped-at}
+use Rattle.heap.proofs.heaps.HeapQueue.least.Needs as need
 
 pub returns : need.returns
 returns g c =

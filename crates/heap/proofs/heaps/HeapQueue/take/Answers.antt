@@ -1,9 +1,9 @@
 use mathlib.Core.Path.{refl, sym}
 use borrow.Author.Needs.{needs}
 use Rattle.queue.proofs.Fronts.{take-counts}
 use Rattle.queue.proofs.Scans.{taken-at}
-use Rattle.queue.proofs.HeapRows.{heaped-at}
-use Rattle.queue.proofs.heap.HeapQueue.take.Needs as need
+use Rattle.heap.proofs.HeapRows.{heaped-at}
+use Rattle.heap.proofs.heaps.HeapQueue.take.Needs as need
 
 pub returns : need.returns
 returns g c =

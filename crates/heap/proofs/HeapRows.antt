@@ -11,14 +11,14 @@ use Rattle.std.proofs.shelf.Lists.{length-take-le, getD-set-other}
 use Rattle.std.proofs.shelf.Edits.{Swapped}
 use Rattle.std.proofs.shelf.Sorted.{shuffled-trans, shuffled-swap, shuffled-refl}
 use Rattle.cost.specs.declared.costs.Cost as cost
 use Rattle.queue.specs.declared.entries.Entry.{Entry}
 use Rattle.queue.specs.Orders.{goes, Leads, Least}
-use Rattle.queue.specs.Heaps.{Heaped, Rooted, Lower}
+use Rattle.heap.specs.Heaps.{Heaped, Rooted, Lower}
 use Rattle.std.proofs.shelf.Tests.{cases-eq}
 use Rattle.queue.proofs.Order.{goes-refl, goes-asym, goes-trans}
 use Rattle.queue.proofs.Fronts.{take-exchanged}
 use Rattle.queue.proofs.Scans.{some-of, leads-least}
-use Rattle.queue.proofs.Sifts.{up, UpTo, DownTo, up-step, up-done, down-step, down-done, root-first}
+use Rattle.heap.proofs.Sifts.{up, UpTo, DownTo, up-step, up-done, down-step, down-done, root-first}
 
 module _ {K : Type 0} (C : cost.Ghosts K) where
   -- x does not come after y

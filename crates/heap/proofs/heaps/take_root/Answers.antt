@@ -1,7 +1,7 @@
 use native.Mathlib.Omega.{arith}
 use Rattle.queue.proofs.Fronts.{read-out-then}
-use Rattle.queue.proofs.HeapRows.{rooted-from, root-least}
-use Rattle.queue.proofs.heap.take_root.Needs as need
+use Rattle.heap.proofs.HeapRows.{rooted-from, root-least}
+use Rattle.heap.proofs.heaps.take_root.Needs as need
 
 pub returns : need.returns
 returns g c =

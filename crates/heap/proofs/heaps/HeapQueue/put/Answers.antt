@@ -1,8 +1,8 @@
 use mathlib.Core.Path.{refl, sym}
 use borrow.Author.Needs.{needs}
 use Rattle.queue.proofs.Fronts.{put-row, put-counts}
-use Rattle.queue.proofs.HeapRows.{heaped-at, heaped-set}
-use Rattle.queue.proofs.heap.HeapQueue.put.Needs as need
+use Rattle.heap.proofs.HeapRows.{heaped-at, heaped-set}
+use Rattle.heap.proofs.heaps.HeapQueue.put.Needs as need
 
 pub returns : need.returns
 returns g c =

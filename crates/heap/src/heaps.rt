@@ -4,16 +4,16 @@ ghost use Prim.Native.Nat.{ℕ, _+_, _-_, _/_, _<_, _≤_, min};
 ghost use lib.ListN.{length, getD, take};
 ghost use denote.Ref.{now, name};
 ghost use Rattle.std.specs.Slices.{Shuffled};
 ghost use Rattle.queue.specs.declared.entries.Entry.{Entry};
 ghost use Rattle.queue.specs.Orders.{Least, Names, Added, goes};
 ghost use Rattle.queue.specs.Places.{used, front-fits};
-ghost use Rattle.queue.specs.Heaps.{Heaped, Rooted, Lower, empty-heaped};
-ghost use Rattle.queue.specs.Makes.{heap-entries, heap-room};
-use crate::entries::Entry;
-use crate::places::goes_before;
-use crate::places::in_use;
-use crate::queues::Queue;
+ghost use Rattle.heap.specs.Heaps.{Heaped, Rooted, Lower, empty-heaped};
+ghost use Rattle.heap.specs.Makes.{heap-entries, heap-room};
 use cost::costs::Cost;
+use queue::entries::Entry;
+use queue::places::goes_before;
+use queue::places::in_use;
+use queue::queues::Queue;
 use rows::refusals::Refusal;
 
 // A queue as a binary heap: put and take compare O(log n) entries, least none.

@@ -1,6 +1,6 @@
 use mathlib.Core.Path.{ap, sym}
-use Rattle.queue.proofs.HeapRows.{root-least}
-use Rattle.queue.proofs.heap.root_number.Needs as need
+use Rattle.heap.proofs.HeapRows.{root-least}
+use Rattle.heap.proofs.heaps.root_number.Needs as need
 
 pub returns : need.returns
 returns g c h =

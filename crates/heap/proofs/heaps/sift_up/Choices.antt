@@ -1,9 +1,9 @@
 use Prim.Native.Nat.{ℕ, _+_, _<_, _≤_}
 use lib.ListN.{length, take}
 use Rattle.std.specs.Slices.{Shuffled}
-use Rattle.queue.specs.Heaps.{Heaped}
-use Rattle.queue.proofs.HeapRows.{Raising}
-use Rattle.queue.proofs.heap.sift_up.Given as given
+use Rattle.heap.specs.Heaps.{Heaped}
+use Rattle.heap.proofs.HeapRows.{Raising}
+use Rattle.heap.proofs.heaps.sift_up.Given as given
 
 abbrev pub Inv-loop-at : given.InvT-loop-at
 Inv-loop-at g l =

@@ -1,9 +1,9 @@
 use Prim.Native.Nat.{ℕ, _-_, _<_, _≤_}
 use lib.ListN.{length, take}
 use Rattle.std.specs.Slices.{Shuffled}
-use Rattle.queue.specs.Heaps.{Rooted}
-use Rattle.queue.proofs.HeapRows.{Sinking}
-use Rattle.queue.proofs.heap.sift_down.Given as given
+use Rattle.heap.specs.Heaps.{Rooted}
+use Rattle.heap.proofs.HeapRows.{Sinking}
+use Rattle.heap.proofs.heaps.sift_down.Given as given
 
 abbrev pub Inv-loop-at : given.InvT-loop-at
 Inv-loop-at g l =
