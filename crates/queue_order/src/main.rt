@@ -1,12 +1,12 @@
 // The order in which the same few plans come out of both makes of queue, in each kind of cost.
 use cost::costs::Cost;
-use cost::kinds::Peak;
-use cost::kinds::PeakCost;
-use cost::kinds::Spend;
-use cost::kinds::SpendCost;
-use cost::kinds::SpendThenMoves;
-use cost::kinds::SpendThenMovesCost;
+use cost::peak::Peak;
+use cost::peak::PeakCost;
 use cost::plans::plan_cost;
+use cost::spend::Spend;
+use cost::spend::SpendCost;
+use cost::spend_then_moves::SpendThenMoves;
+use cost::spend_then_moves::SpendThenMovesCost;
 use heap::heaps::Heap;
 use heap::heaps::HeapQueue;
 use queue::batches::in_order;
