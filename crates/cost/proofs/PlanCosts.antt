@@ -14,31 +14,28 @@ use Rattle.std.proofs.shelf.Elements.{all-weaker, has-getD, has-append-right}
 use Rattle.cost.specs.Costs.{Arithmetic, NotAfter, costOf}
 use Rattle.cost.specs.Kinds.{spend, spend-then-moves, peak, tally, Tally}
 use native.Mathlib.Numerals.{one-add}
-use Rattle.cost.specs.Plans.{CheaperRests, Largest, KindCosts, PlanRefused}
+use Rattle.cost.specs.Plans.{Largest, PlanRefused}
 use Rattle.rows.specs.declared.refusals.Refusal.{Refusal}
 use Rattle.rows.specs.declared.refusals.Refusal.the-variants.{Price}
 
 module _ (a : Arithmetic) where
-  kept : (ps qs rs : List ℕ) → NotAfter a (costOf a qs) (costOf a rs) → NotAfter a (costOf a (ps ++ qs)) (costOf a (ps ++ rs))
+  pub kept : (ps qs rs : List ℕ) → NotAfter a (costOf a qs) (costOf a rs) → NotAfter a (costOf a (ps ++ qs)) (costOf a (ps ++ rs))
   kept [] qs rs h = h
   kept (p ∷ ps) qs rs h = a .kept-by-join (a .priced p) (costOf a (ps ++ qs)) (costOf a (ps ++ rs)) (kept ps qs rs h)
 
   same : (x : a .Value) → NotAfter a x x
   same x = ⊎-elim (λ h. h) (λ h. h) (a .total x x)
 
-  rest : (ps qs : List ℕ) → NotAfter a (costOf a qs) (costOf a (ps ++ qs))
+  pub rest : (ps qs : List ℕ) → NotAfter a (costOf a qs) (costOf a (ps ++ qs))
   rest [] qs = same (costOf a qs)
   rest (p ∷ ps) qs =
       a .transitive (costOf a qs) (costOf a (ps ++ qs)) (costOf a (p ∷ ps ++ qs)) (rest ps qs) (a .never-before-rest (a .priced p) (costOf a (ps ++ qs)))
 
-  pub cheaper-rests : CheaperRests a
-  cheaper-rests = record { kept = kept; rest = rest }
-
-spend-is : (ps : List ℕ) → costOf spend ps ≡ sum ps
+pub spend-is : (ps : List ℕ) → costOf spend ps ≡ sum ps
 spend-is [] = refl
 spend-is (p ∷ ps) = ap (_+_ p) (spend-is ps) ∙ sym (sumBy-cons (λ q. q) p ps)
 
-spend-then-moves-is : (ps : List ℕ) → costOf spend-then-moves ps ≡ tally (sum ps) (length ps)
+pub spend-then-moves-is : (ps : List ℕ) → costOf spend-then-moves ps ≡ tally (sum ps) (length ps)
 spend-then-moves-is [] = refl
 spend-then-moves-is (p ∷ ps) =
     ap (λ (t : Tally). tally (p + t .sum) (1 + t .count)) (spend-then-moves-is ps)
@@ -63,12 +60,9 @@ largest p ps m l = record {
       (cases-lt m p);
 }
 
-peak-is : (ps : List ℕ) → Largest ps (costOf peak ps)
+pub peak-is : (ps : List ℕ) → Largest ps (costOf peak ps)
 peak-is [] = record { above = tt; there = inr (refl, refl) }
 peak-is (p ∷ ps) = largest p ps (costOf peak ps) (peak-is ps)
-
-pub kind-costs : KindCosts
-kind-costs = record { spend-is = spend-is; spend-then-moves-is = spend-then-moves-is; peak-is = peak-is }
 
 -- one move more at the front
 pub costOf-more : (a : Arithmetic) (ps : List ℕ) (i : ℕ) (v x : a .Value) → 0 < i → i ≤ length ps → v ≡ a .joined (a .priced (getD ps (i - 1) 0)) x → x ≡ costOf a (drop i ps) → v ≡ costOf a (drop (i - 1) ps)

@@ -1,30 +1,17 @@
 -- What plans cost, by the prices of their moves.
 use mathlib.Core.Path.{_≡_}
 use mathlib.Core.Logic.{_⊎_}
-use mathlib.Core.List.{List, [], _++_}
+use mathlib.Core.List.{List, []}
 use Prim.Native.Nat.{ℕ, _<_, _≤_}
 use lib.ListN.{length, getD}
-use Rattle.std.specs.shelf.Lists.{All, Has, sum}
+use Rattle.std.specs.shelf.Lists.{All, Has}
 use Rattle.rows.specs.declared.refusals.Refusal.{Refusal}
 use Rattle.rows.specs.declared.refusals.Refusal.the-variants.{Price, Long}
-use Rattle.cost.specs.Costs.{Arithmetic, NotAfter, costOf}
-use Rattle.cost.specs.Kinds.{spend, spend-then-moves, peak, tally}
-
--- a plan with a rest that does not cost more does not cost more itself; and no plan costs less than its rest
-pub record CheaperRests (a : Arithmetic) : Type 0 where
-  pub kept : (ps qs rs : List ℕ) → NotAfter a (costOf a qs) (costOf a rs) → NotAfter a (costOf a (ps ++ qs)) (costOf a (ps ++ rs))
-  pub rest : (ps qs : List ℕ) → NotAfter a (costOf a qs) (costOf a (ps ++ qs))
 
 -- m is the largest of the numbers, or 0 where there is none
 pub record Largest (ps : List ℕ) (m : ℕ) : Type 0 where
   pub above : All (λ p. p ≤ m) ps
   pub there : Has ps m ⊎ ((ps ≡ []) × (m ≡ 0))
-
--- what a plan costs in each kind
-pub record KindCosts : Type 0 where
-  pub spend-is : (ps : List ℕ) → costOf spend ps ≡ sum ps
-  pub spend-then-moves-is : (ps : List ℕ) → costOf spend-then-moves ps ≡ tally (sum ps) (length ps)
-  pub peak-is : (ps : List ℕ) → Largest ps (costOf peak ps)
 
 -- no price is over the highest
 abbrev pub Payable : List ℕ → Type 0

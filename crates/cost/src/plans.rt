@@ -1,11 +1,14 @@
 ghost use mathlib.Core.Path.{_≡_};
 ghost use mathlib.Core.Logic.{_⊎_};
+ghost use mathlib.Core.List.{List, _++_};
 ghost use Prim.Native.Nat.{ℕ, _+_, _<_, _≤_};
 ghost use lib.ListN.{length};
 ghost use Rattle.std.specs.Results.{Cases as ByOk};
-ghost use Rattle.cost.specs.Costs.{costOf};
+ghost use Rattle.std.specs.shelf.Lists.{sum};
+ghost use Rattle.cost.specs.Costs.{NotAfter, costOf};
+ghost use Rattle.cost.specs.Kinds.{spend, spend-then-moves, peak, tally};
 ghost use Rattle.cost.specs.Limits.{Within};
-ghost use Rattle.cost.specs.Plans.{CheaperRests, KindCosts, Payable, PlanRefused};
+ghost use Rattle.cost.specs.Plans.{Largest, Payable, PlanRefused};
 use crate::costs::Cost;
 use rows::refusals::Refusal;
 
@@ -36,18 +39,21 @@ fn prepend<K: Cost>(price: u32, rest: K) -> Result<K, Refusal>
     }
 }
 
-// Of plans that begin alike, in every kind of cost, one whose rest does not cost more does not cost more; and none costs
-// less than its rest. The number says nothing.
+// In every kind of cost: of two plans that begin alike, one whose rest does not cost more does not cost more; and no plan
+// costs less than its rest. The number says nothing.
 pub fn cheaper_rests<K: Cost>() -> u8
-    ensures { λ _. ⌜ CheaperRests (K·Cost .arithmetic) ⌝ }
+    ensures kept { λ _. ⌜ ((ps qs rs : List ℕ) → NotAfter (K·Cost .arithmetic) (costOf (K·Cost .arithmetic) qs) (costOf (K·Cost .arithmetic) rs) → NotAfter (K·Cost .arithmetic) (costOf (K·Cost .arithmetic) (ps ++ qs)) (costOf (K·Cost .arithmetic) (ps ++ rs))) ⌝ }
+    ensures rest { λ _. ⌜ ((ps qs : List ℕ) → NotAfter (K·Cost .arithmetic) (costOf (K·Cost .arithmetic) qs) (costOf (K·Cost .arithmetic) (ps ++ qs))) ⌝ }
 {
     0
 }
 
-// A plan's cost is in Spend the sum of the prices, in SpendThenMoves the sum and how many they are, in Peak the largest,
-// or 0 where there is none. The number says nothing.
+// A plan's cost, however long it is: in Spend the sum of the prices, in SpendThenMoves the sum and how many they are, in
+// Peak the largest, or 0 where there is none. The number says nothing.
 pub fn kind_costs() -> u8
-    ensures { λ _. ⌜ KindCosts ⌝ }
+    ensures spend { λ _. ⌜ ((ps : List ℕ) → costOf spend ps ≡ sum ps) ⌝ }
+    ensures spend_then_moves { λ _. ⌜ ((ps : List ℕ) → costOf spend-then-moves ps ≡ tally (sum ps) (length ps)) ⌝ }
+    ensures peak { λ _. ⌜ ((ps : List ℕ) → Largest ps (costOf peak ps)) ⌝ }
 {
     0
 }

@@ -1,5 +1,5 @@
-use Rattle.cost.proofs.PlanCosts.{cheaper-rests}
+use Rattle.cost.proofs.PlanCosts.{kept, rest}
 use Rattle.cost.proofs.plans.cheaper_rests.Needs as need
 
 pub returns : need.returns
-returns g c = cheaper-rests (g .K·Cost .arithmetic)
+returns g c = record { kept = kept (g .K·Cost .arithmetic); rest = rest (g .K·Cost .arithmetic) }

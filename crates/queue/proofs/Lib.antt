@@ -1,0 +1,4 @@
+pub mod Order
+pub mod Fronts
+pub mod Scans
+pub mod Runs

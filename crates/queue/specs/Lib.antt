@@ -1,0 +1,4 @@
+pub mod Orders
+pub mod Places
+pub mod Makes
+pub mod Batches
