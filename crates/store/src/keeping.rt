@@ -9,6 +9,7 @@ pub fn keep_unless_covered<S: Store>(s: &mut S, row: &[u8]) -> Result<Option<u16
     ensures still { λ r. ⌜ StillUnless r (now (s .entry)) (now (s .exit)) ⌝ }
     ensures values { λ _. ⌜ table (now (s .exit)) ≡ table (now (s .entry)) ⌝ }
     ensures space { λ _. ⌜ space (now (s .exit)) ≡ space (now (s .entry)) ⌝ }
+    ensures lender { λ _. ⌜ lender (now (s .exit)) ≡ lender (now (s .entry)) ⌝ }
 {
     match s.cover(row)? {
         Some(r) => Ok(Some(r)),

@@ -1,5 +1,5 @@
 ghost use mathlib.Core.Path.{_≡_};
-ghost use mathlib.Core.List.{List};
+ghost use mathlib.Core.List.{List, []};
 ghost use Prim.Native.Nat.{ℕ, _+_, _*_, _<_, _≤_};
 ghost use lib.ListN.{length, getD};
 ghost use denote.Ref.{now, name};
@@ -30,7 +30,8 @@ impl<'a> RowStore<'a> {
     // An empty store, whatever the bytes hold; it leaves them as they are.
     pub fn new(values: &'a [u8], bytes: &'a mut [u8]) -> RowStore<'a>
         ensures table { λ r. ⌜ now (r .values) ≡ now (values .entry) ⌝ }
-        ensures empty { λ r. ⌜ r .count ≡ 0 ⌝ }
+        ensures empty { λ r. ⌜ rowsOf (length (now (r .values))) (r .count) (now (r .bytes)) ≡ [] ⌝ }
+        ensures space { λ r. ⌜ spaceOf (now (r .values)) (length (now (r .bytes))) ≡ spaceOf (now (values .entry)) (length (now (bytes .entry))) ⌝ }
         ensures memory { λ r. ⌜ now (r .bytes) ≡ now (bytes .entry) ⌝ }
         ensures lender { λ r. ⌜ name (r .bytes) ≡ name (bytes .entry) ⌝ }
     {
@@ -72,6 +73,8 @@ pub impl<'a> Store for RowStore<'a> as RowStoreStore {
     ghost space = { λ s. spaceOf (now (s .values)) (length (now (s .bytes))) };
 
     ghost lawful = { λ s. row-lawful (now (s .values)) (now (s .bytes)) (s .space) (s .count) (s .measured) (s .inside) (s .apart) (s .fit) };
+
+    ghost lender = { λ s. name (s .bytes) };
 
     fn cover(&self, row: &[u8]) -> Result<Option<u16>, Refusal> {
         if !fits(self.values, row) {

@@ -16,6 +16,9 @@ pub trait Store {
 
     ghost lawful: { (s : Self) → Lawful (table s) (kept s) (space s) };
 
+    // The ghost name of the memory that the store was lent: while it stays, who lent the memory knows what it holds when the store ends.
+    ghost lender: { Self → ℕ };
+
     // The rank of a kept row that covers the row, or nothing if none does. Which of several it names is open.
     fn cover(&self, row: &[u8]) -> Result<Option<u16>, Refusal>
         ensures { λ r. ⌜ CoverAnswer (table (now (self .entry))) (kept (now (self .entry))) (now (row .entry)) r ⌝ };
@@ -25,7 +28,8 @@ pub trait Store {
         ensures answer { λ r. ⌜ KeepAnswer (table (now (self .entry))) (kept (now (self .entry))) (space (now (self .entry))) (now (row .entry)) (kept (now (self .exit))) r ⌝ }
         ensures still { λ r. ⌜ Still r (now (self .entry)) (now (self .exit)) ⌝ }
         ensures values { λ _. ⌜ table (now (self .exit)) ≡ table (now (self .entry)) ⌝ }
-        ensures space { λ _. ⌜ space (now (self .exit)) ≡ space (now (self .entry)) ⌝ };
+        ensures space { λ _. ⌜ space (now (self .exit)) ≡ space (now (self .entry)) ⌝ }
+        ensures lender { λ _. ⌜ lender (now (self .exit)) ≡ lender (now (self .entry)) ⌝ };
 
     fn count(&self) -> usize
         ensures { λ r. ⌜ r ≡ length (kept (now (self .entry))) ⌝ };

@@ -16,4 +16,5 @@ returns-in-Err g c =
       still = k .still;
       values = k .values;
       space = k .space;
+      lender = k .lender;
     }
