@@ -15,9 +15,9 @@ use rows::refusals::Refusal;
 
 // Rows one after the other in lent bytes.
 #[derive(Drop)]
-pub struct RowStore<'a> {
-    values: &'a [u8],
-    bytes: &'a mut [u8],
+pub struct RowStore<'t, 'm> {
+    values: &'t [u8],
+    bytes: &'m mut [u8],
     space: usize,
     count: usize,
     ghost measured: { space ≡ spaceOf (now values) (length (now bytes)) },
@@ -26,9 +26,9 @@ pub struct RowStore<'a> {
     ghost fit: { AllFit (now values) (rowsOf (length (now values)) count (now bytes)) },
 }
 
-impl<'a> RowStore<'a> {
+impl<'t, 'm> RowStore<'t, 'm> {
     // An empty store, whatever the bytes hold; it leaves them as they are.
-    pub fn new(values: &'a [u8], bytes: &'a mut [u8]) -> RowStore<'a>
+    pub fn new(values: &'t [u8], bytes: &'m mut [u8]) -> RowStore<'t, 'm>
         ensures table { λ r. ⌜ now (r .values) ≡ now (values .entry) ⌝ }
         ensures empty { λ r. ⌜ rowsOf (length (now (r .values))) (r .count) (now (r .bytes)) ≡ [] ⌝ }
         ensures space { λ r. ⌜ spaceOf (now (r .values)) (length (now (r .bytes))) ≡ spaceOf (now (values .entry)) (length (now (bytes .entry))) ⌝ }
@@ -45,7 +45,7 @@ impl<'a> RowStore<'a> {
     }
 }
 
-impl RowStore<'_> {
+impl RowStore<'_, '_> {
     // Whether a kept row equals the row.
     fn holds(&self, row: &[u8]) -> bool
         requires { ⌜ length (now row) ≡ length (now (now self .values)) ⌝ }
@@ -65,7 +65,7 @@ impl RowStore<'_> {
     }
 }
 
-pub impl<'a> Store for RowStore<'a> as RowStoreStore {
+pub impl<'t, 'm> Store for RowStore<'t, 'm> as RowStoreStore {
     ghost kept = { λ s. rowsOf (length (now (s .values))) (s .count) (now (s .bytes)) };
 
     ghost table = { λ s. now (s .values) };

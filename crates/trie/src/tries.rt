@@ -18,9 +18,9 @@ use store::stores::Store;
 
 // A trie of rows in lent cells: each level branches by one variable, and a kept row is a way from the root to a cell of the last level.
 #[derive(Drop)]
-pub struct Trie<'a> {
-    values: &'a [u8],
-    cells: &'a mut [Cell],
+pub struct Trie<'t, 'm> {
+    values: &'t [u8],
+    cells: &'m mut [Cell],
     space: usize,
     used: usize,
     count: usize,
@@ -29,9 +29,9 @@ pub struct Trie<'a> {
     ghost sound: { IsSound (now values) (now cells) used count },
 }
 
-impl<'a> Trie<'a> {
+impl<'t, 'm> Trie<'t, 'm> {
     // An empty trie, whatever the cells hold. It makes the first one, if there is one, the root, and leaves the others as they are.
-    pub fn new(values: &'a [u8], cells: &'a mut [Cell]) -> Trie<'a>
+    pub fn new(values: &'t [u8], cells: &'m mut [Cell]) -> Trie<'t, 'm>
         ensures table { λ r. ⌜ now (r .values) ≡ now (values .entry) ⌝ }
         ensures empty { λ r. ⌜ rowsIn (length (now (r .values))) (now (r .cells)) (r .used) (r .count) ≡ [] ⌝ }
         ensures space { λ r. ⌜ spaceOf (now (r .values)) (length (now (r .cells)) - 1) ≡ spaceOf (now (values .entry)) (length (now (cells .entry)) - 1) ⌝ }
@@ -52,7 +52,7 @@ impl<'a> Trie<'a> {
     }
 }
 
-impl Trie<'_> {
+impl Trie<'_, '_> {
     // Looks into the cell c, which lies in the level `level`: the rank of a covering row that goes by it.
     fn look(&self, row: &[u8], c: usize, level: usize) -> Option<u16>
         requires { ⌜ Looks (now (now self .values)) (now row) (now (now self .cells)) (now self .used) (now self .count) c level ⌝ }
@@ -160,7 +160,7 @@ fn link(head: u32, from: usize, k: usize, rank: u16, i: usize, byte: u8) -> Cell
     }
 }
 
-pub impl<'a> Store for Trie<'a> as TrieStore {
+pub impl<'t, 'm> Store for Trie<'t, 'm> as TrieStore {
     ghost kept = { λ s. rowsIn (length (now (s .values))) (now (s .cells)) (s .used) (s .count) };
 
     ghost table = { λ s. now (s .values) };
