@@ -83,7 +83,7 @@ pub impl<'t, 'm> Store for RowStore<'t, 'm> as RowStoreStore {
         let width = self.values.len();
         'rows: for r in 0..self.count {
             let at = r * width;
-            for v in 0..width {
+            for v in 0..row.len() {
                 let b = self.bytes[at + v];
                 if b != MARK && b != row[v] {
                     continue 'rows;

@@ -7,10 +7,7 @@ use native.Mathlib.Omega.{arith}
 use native.Mathlib.Nat.{mul-le-mul-right}
 use lib.ListN.{length, getD}
 use denote.Ref.{now}
-use mathlib.Core.Bool.{true}
-use Rattle.std.proofs.shelf.Tests.{cases-lt, cases-eq, both-ways}
-use Rattle.std.proofs.shelf.Ways.{tells}
-use Rattle.rows.specs.Rows.{covers-at}
+use Rattle.std.proofs.shelf.Tests.{cases-lt, cases-eq}
 use Rattle.store.specs.Stores.{spaceOf}
 use Rattle.store.specs.Blocks.{inside}
 use Rattle.trie.specs.declared.cells.Cell.{Cell}
@@ -61,13 +58,3 @@ module _ (values : List ℕ) (cells : List Cell) (used count : ℕ) (s : Sound v
           ap (λ x. at cells x .byte) (ap (λ x. up cells x b) n ∙ up-first cells (level - (v + 1)) b ∙ ap (up cells (level - (v + 1))) pe) ∙ same v (omega arith)
     ],
   )
-
--- which branches a lookup goes into
-pub by-mark : (x y : ℕ) → x ≡ 255 → covers-at x y ≡ true
-by-mark x y e = grind (arith, tells)
-
-pub by-byte : (x y : ℕ) → x ≡ y → covers-at x y ≡ true
-by-byte x y e = grind (arith, tells)
-
-pub by-neither : (x y : ℕ) → (x ≡ 255 → ⊥) → (x ≡ y → ⊥) → covers-at x y ≡ true → ⊥
-by-neither x y m n = both-ways (covers-at x y) (grind (arith, tells))

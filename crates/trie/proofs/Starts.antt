@@ -11,7 +11,7 @@ use Rattle.store.specs.Stores.{spaceOf}
 use Rattle.trie.specs.declared.cells.Cell.{Cell}
 use Rattle.trie.specs.Cells.{at, blank, Sound, IsSound}
 
-pub sound-new : (values : List ℕ) (cells : List Cell) → at cells 0 ≡ blank → IsSound values cells 1 0
+sound-new : (values : List ℕ) (cells : List Cell) → at cells 0 ≡ blank → IsSound values cells 1 0
 sound-new values cells e no-way = no-way (record {
   inside = λ h. absurd (omega arith);
   few = omega (arith, zero-mul (length values));
@@ -48,6 +48,10 @@ pub no-root : (cells : List Cell) → length cells ≤ 0 → cells ≡ set cells
 no-root [] h = refl
 no-root (y ∷ ys) h = absurd (omega arith)
 
-pub root-blank : (cells : List Cell) → at (set cells 0 blank) 0 ≡ blank
+root-blank : (cells : List Cell) → at (set cells 0 blank) 0 ≡ blank
 root-blank [] = refl
 root-blank (y ∷ ys) = refl
+
+-- cells whose first one, if there is one, is the root
+pub planted : (cells after : List Cell) → after ≡ set cells 0 blank → (values : List ℕ) → IsSound values after 1 0
+planted cells after e values = sound-new values after (ap (λ x. at x 0) e ∙ root-blank cells)

@@ -4,7 +4,7 @@ ghost use mathlib.Core.List.{List, [], _∷_, _++_};
 ghost use Prim.Native.Nat.{ℕ, _+_, _-_, _*_, _^_, _<_, _≤_};
 ghost use lib.ListN.{length, getD, set};
 ghost use denote.Ref.{now, name};
-ghost use Rattle.rows.specs.Rows.{fits};
+ghost use Rattle.rows.specs.Rows.{fits, covers-at};
 ghost use Rattle.store.specs.Stores.{spaceOf};
 ghost use Rattle.trie.specs.Cells.{IsSound, rowsIn, linked, blank};
 ghost use Rattle.trie.specs.Laws.{trie-lawful};
@@ -39,9 +39,7 @@ impl<'t, 'm> Trie<'t, 'm> {
         ensures lender { λ r. ⌜ name (r .cells) ≡ name (cells .entry) ⌝ }
     {
         let space = capacity_of(values, cells.len().saturating_sub(1));
-        if cells.len() > 0 {
-            cells[0] = Cell::blank();
-        }
+        plant(cells);
         Trie {
             values,
             cells,
@@ -73,7 +71,7 @@ impl Trie<'_, '_> {
             return None;
         }
         let cell = self.cells[b];
-        if cell.byte == MARK || cell.byte == row[level] {
+        if leads(cell.byte, row[level]) {
             if let Some(r) = self.look(row, b, level + 1) {
                 return Some(r);
             }
@@ -137,6 +135,23 @@ impl Trie<'_, '_> {
         self.used = from + k;
         self.count = rank + 1;
     }
+}
+
+// Makes the first cell, if there is one, the root of an empty trie.
+fn plant(cells: &mut [Cell])
+    ensures root { λ _. ⌜ now (cells .exit) ≡ set (now (cells .entry)) 0 blank ⌝ }
+    ensures sound { λ _. ⌜ ((values : List ℕ) → IsSound values (now (cells .exit)) 1 0) ⌝ }
+{
+    if cells.len() > 0 {
+        cells[0] = Cell::blank();
+    }
+}
+
+// Whether rows that go into a branch of this byte can cover a row that has the byte `asked` there.
+fn leads(byte: u8, asked: u8) -> bool
+    ensures { λ r. ⌜ r ≡ covers-at byte asked ⌝ }
+{
+    byte == MARK || byte == asked
 }
 
 // The i-th of the k new cells of a row, which lie from the place `from` on; `head` is the branch that was the newest until now.

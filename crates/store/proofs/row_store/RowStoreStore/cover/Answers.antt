@@ -19,12 +19,8 @@ lies s r h = inside (now (s .values)) (length (now (s .bytes))) (s .space) r (s 
 pub index-self-at : need.index-self-at
 index-self-at c =
     let s = c .args .self .now in
+    let e = wide (now (s .values)) (c .args .row .now) (sym (c .if-not-fits .ensures tt)) in
     place-inside (length (now (s .values))) (length (now (s .bytes))) (c .rows .r) (c .loop-v .v) (lies s (c .rows .r) (omega arith)) (omega arith)
-
-pub index-row-v : need.index-row-v
-index-row-v c =
-    let e = wide (now (c .args .self .now .values)) (c .args .row .now) (sym (c .if-not-fits .ensures tt)) in
-    omega arith
 
 pub rows-again : need.rows-again
 rows-again c =

@@ -5,14 +5,14 @@ use borrow.Author.Needs.{needs}
 use lib.ListN.{length, getD}
 use denote.Ref.{now}
 use Rattle.std.specs.declared.option.Option.the-variants.{None}
-use mathlib.Core.Bool.{true}
+use Rattle.std.proofs.shelf.Tests.{both-ways}
 use Rattle.rows.specs.Rows.{covers-at}
 use Rattle.trie.specs.Cells.{at}
 use Rattle.trie.specs.Lookups.{Looked}
 use Rattle.trie.specs.Ways.{falls-deeper, look-leaf, look-along, along-look, along-along, along-skip, gone-step, looked-step}
-use Rattle.trie.proofs.Descents.{of, by-mark, by-byte, by-neither}
+use Rattle.trie.proofs.Descents.{of}
 use Rattle.trie.proofs.tries.Trie.+along+look.Needs as need
-use Rattle.trie.proofs.tries.Trie.+along+look.Needs.{along-then-cell·in-rest, along-then-cell·by·then-cell, along-then-cell·by·else-cell·then-cell-row, along-else-cell·else-cell-row}
+use Rattle.trie.proofs.tries.Trie.+along+look.Needs.{along-then-leads·in-rest, along-else-leads}
 
 pub along-offset-self-b : need.along-offset-self-b
 along-offset-self-b t c =
@@ -21,11 +21,9 @@ along-offset-self-b t c =
 
 pub along-look-requires : need.along-look-requires
 along-look-requires t c κs =
-    let s = c .args .self .now in
-    let lead : covers-at (at (now (s .cells)) (c .args .b) .byte) (getD (c .args .row .now) (c .args .level) 0) ≡ true =
-    elim (c .then-cell .came) [ along-then-cell·by·then-cell w ↦ by-mark _ _ (w .if-cell .taken) | along-then-cell·by·else-cell·then-cell-row w ↦ by-byte _ _ (w .if-cell-row .taken) ] in (
+    let s = c .args .self .now in (
       omega (arith, falls-deeper (length (now (s .values))) (c .args .level) (s .used) (c .args .b) (c .pre .shallow), c .measured),
-      along-look _ _ _ _ _ (of s) (c .args .b) (c .args .level) (c .pre) (omega arith) lead,
+      along-look _ _ _ _ _ (of s) (c .args .b) (c .args .level) (c .pre) (omega arith) (sym (c .if-leads .ensures tt)),
     )
 
 pub along-along-requires : need.along-along-requires
@@ -41,9 +39,9 @@ along-returns t c =
     let s = c .args .self .now in
     let p : 0 < c .args .b = omega arith in
     let here : Looked (now (s .values)) (c .args .row .now) (now (s .cells)) (s .used) (s .count) (c .args .b) (c .args .level + 1) None =
-    elim (c .if-cell .came) [
-      | along-then-cell·in-rest w ↦ w .in-rest .ensures tt
-      | along-else-cell·else-cell-row w ↦ along-skip _ _ _ _ _ (of s) (c .args .b) (c .args .level) (c .pre) (by-neither _ _ (w .if-cell .left) (w .if-cell-row .left))
+    elim (c .if-leads .came) [
+      | along-then-leads·in-rest w ↦ w .in-rest .ensures tt
+      | along-else-leads w ↦ along-skip _ _ _ _ _ (of s) (c .args .b) (c .args .level) (c .pre) (both-ways (covers-at (at (now (s .cells)) (c .args .b) .byte) (getD (c .args .row .now) (c .args .level) 0)) (sym (w .if-leads .ensures tt)))
     ] in
     gone-step _ _ _ _ _ (of s) (c .args .b) (c .args .level) (c .pre) p here (c .along .result) (c .along .ensures)
 
