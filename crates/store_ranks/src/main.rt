@@ -6,6 +6,7 @@ use rows::checks::MARK;
 use rows::refusals::Refusal;
 use std::env;
 use std::io;
+use std::mem::size_of;
 use store::keeping::keep_unless_covered;
 use store::row_store::RowStore;
 use store::row_store::RowStoreStore;
@@ -184,6 +185,8 @@ fn show_again(rt: &LibcRuntime, bytes: &mut [u8], cells: &mut [Cell]) -> io::Res
 fn show_capacities(rt: &LibcRuntime) -> io::Result<()> {
     let mut bytes = [7u8; 130];
     let mut cells = [Cell::blank(); 130];
+    let size = size_of::<Cell>();
+    println!(rt, "bytes in a cell: {size}")?;
     println!(rt, "capacity in 130 | row store | trie")?;
     capacities(rt, "1 variable", &[9], &mut bytes, &mut cells)?;
     capacities(rt, "64 variables", &[9; 64], &mut bytes, &mut cells)?;
