@@ -1,0 +1,4 @@
+pub mod Searches
+pub mod Pushes
+pub mod Fills
+pub mod Known
