@@ -13,10 +13,9 @@ use Rattle.std.proofs.shelf.Lists.{getD-set-same, getD-set-other, length-set}
 use Rattle.rows.specs.Rows.{fits, fits-at}
 use Rattle.rows.proofs.Both.{both-at}
 use Rattle.trie.specs.declared.cells.Cell.{Cell}
-use Rattle.trie.specs.Cells.{at, blank, up, parentOf, depthOf, leafOf, linked, headed, Sound}
-use Rattle.trie.specs.Chains.{upward, deeper, parent-oldest, parent-next, parent-same, depth-same, root-depth, leaf-same, leaf-skip, leaf-last}
+use Rattle.trie.specs.Cells.{at, blank, parentOf, depthOf, leafOf, linked, headed, Sound}
+use Rattle.trie.specs.Chains.{upward, deeper, parent-oldest, parent-next, parent-same, depth-same, leaf-same, leaf-skip, leaf-last}
 use Rattle.trie.specs.Lookups.{Deepest}
-use Rattle.trie.specs.Wells.{is-root}
 
 -- what the cells hold after the k cells of a row were written past the used ones and hung below the cell c, which lies in the level `level`
 pub record Grown (values row : List ℕ) (cs ds : List Cell) (used count c level k : ℕ) : Type 0 where

@@ -1,20 +1,19 @@
 -- The steps of the two lookups.
 use mathlib.Core.Path.{_≡_, refl, sym, ap, subst, _∙_}
-use mathlib.Core.List.{List, [], _∷_}
-use mathlib.Core.Logic.{_⊎_, inl, inr}
-use Prim.Native.Nat.{ℕ, zero, suc, _+_, _-_, _*_, _<_, _≤_}
+use mathlib.Core.List.{List, []}
+use mathlib.Core.Logic.{inl, inr}
+use Prim.Native.Nat.{ℕ, suc, _+_, _-_, _*_, _<_, _≤_}
 use native.Mathlib.Omega.{arith}
 use native.Mathlib.Nat.{add-mul, one-mul}
-use native.Mathlib.Numerals.{add-one}
 use mathlib.Core.Bool.{true}
 use lib.ListN.{length, getD}
-use Rattle.std.proofs.shelf.Tests.{cases-lt, cases-eq}
+use Rattle.std.proofs.shelf.Tests.{cases-eq}
 use Rattle.std.proofs.shelf.Counted.{getD-map-counting, length-map-counting}
 use Rattle.std.specs.declared.option.Option.{Option}
 use Rattle.std.specs.declared.option.Option.the-variants.{Some, None}
-use Rattle.rows.specs.Rows.{Row, covers, covers-at}
-use Rattle.rows.proofs.Both.{both-at, both-from, both-length}
-use Rattle.store.specs.Stores.{CoverAt, CoverFound}
+use Rattle.rows.specs.Rows.{covers, covers-at}
+use Rattle.rows.proofs.Both.{both-at, both-from}
+use Rattle.store.specs.Stores.{CoverFound}
 use Rattle.trie.specs.declared.cells.Cell.{Cell}
 use Rattle.trie.specs.Cells.{at, up, parentOf, depthOf, leafOf, rowTo, keptRow, rowsIn, Sound}
 use Rattle.trie.specs.Chains.{deeper, parent-next, root-depth}

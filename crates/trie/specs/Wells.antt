@@ -1,15 +1,15 @@
 -- What is known of a sound trie.
-use mathlib.Core.Path.{_≡_, refl, sym, ap, subst, _∙_}
-use mathlib.Core.List.{List, [], _∷_}
-use mathlib.Core.Logic.{_⊎_, inl, inr}
-use Prim.Native.Nat.{ℕ, zero, suc, _+_, _-_, _*_, _<_, _≤_}
+use mathlib.Core.Path.{_≡_, refl, ap, _∙_}
+use mathlib.Core.List.{List}
+use mathlib.Core.Logic.{inl, inr}
+use Prim.Native.Nat.{ℕ, zero, suc, _+_, _*_, _<_, _≤_}
 use native.Mathlib.Omega.{arith}
 use native.Mathlib.Nat.{mul-zero}
-use mathlib.Core.Bool.{Bool, true, false}
-use lib.ListN.{length, getD}
+use mathlib.Core.Bool.{Bool, true}
+use lib.ListN.{length}
 use Rattle.std.proofs.shelf.Tests.{cases-lt, cases-eq, cases-bool, both-ways}
 use Rattle.trie.specs.declared.cells.Cell.{Cell}
-use Rattle.trie.specs.Cells.{at, up, parentOf, depthOf, leafOf, Sound, IsSound}
+use Rattle.trie.specs.Cells.{up, parentOf, depthOf, leafOf, Sound, IsSound}
 use Rattle.trie.specs.Chains.{upward, deeper, root-depth}
 
 lt-stable : {x y : ℕ} → ((x < y → ⊥) → ⊥) → x < y
