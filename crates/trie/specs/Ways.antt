@@ -18,7 +18,7 @@ use Rattle.trie.specs.declared.cells.Cell.{Cell}
 use Rattle.trie.specs.Cells.{at, up, parentOf, depthOf, leafOf, rowTo, keptRow, rowsIn, Sound}
 use Rattle.trie.specs.Chains.{deeper, parent-next, root-depth}
 use Rattle.trie.specs.Lookups.{Led, Looks, Goes, Looked, Gone}
-use Rattle.trie.specs.Wells.{up-first, some-wide, not-root, on-way, from-root}
+use Rattle.trie.specs.Wells.{up-first, head-within, some-wide, not-root, on-way, from-root}
 
 pub falls-deeper : (w level used b : ℕ) → level < w → (w - (level + 1)) * (used + 2) + (used + 1) < (w - level) * (used + 2) + b
 falls-deeper w level used b h =
@@ -57,7 +57,7 @@ module _ (values row : List ℕ) (cells : List Cell) (used count : ℕ) (s : Sou
   pub look-along : (c level : ℕ) → Looks values row cells used count c level → level < length values → Goes values row cells used count (at cells c .head) level
   look-along c level q l =
       let b = at cells c .head in
-      let i : b < used = elim (cases-eq (at cells c .head) 0) [ inl z ↦ omega (arith, z, s .many) | inr ne ↦ s .head-in c (q .within) (omega (arith, ne)) ] in
+      let i : b < used = head-within values cells used count s c (q .within) in
       record {
         wide = q .wide;
         some = q .some;

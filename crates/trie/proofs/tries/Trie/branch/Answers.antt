@@ -6,7 +6,8 @@ use denote.Ref.{now}
 use Rattle.std.proofs.shelf.Tests.{cases-lt, cases-eq}
 use Rattle.trie.specs.Cells.{at}
 use Rattle.trie.specs.Chains.{parent-next}
-use Rattle.trie.proofs.Descents.{of, reach, head-within, past-head, past-next}
+use Rattle.trie.specs.Wells.{head-within}
+use Rattle.trie.proofs.Descents.{of, reach, past-head, past-next}
 use Rattle.trie.proofs.tries.Trie.branch.Needs as need
 
 pub index-self-c : need.index-self-c
