@@ -1,0 +1,3 @@
+pub mod numbers;
+mod outcomes;
+pub mod tables;
