@@ -5,3 +5,4 @@ pub mod Expansions
 pub mod Visits
 pub mod Leasts
 pub mod Takings
+pub mod Beginnings

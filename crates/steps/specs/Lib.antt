@@ -1,4 +1,5 @@
 pub mod Memories
+pub mod Begins
 pub mod Steps
 pub mod Answers
 pub mod Turns

@@ -15,6 +15,7 @@ ghost use Rattle.steps.specs.declared.tables.Record.{Record};
 ghost use Rattle.steps.specs.Memories.{width, rowAt, written};
 ghost use Rattle.steps.specs.Steps.{back};
 
+pub mod begins;
 pub mod numbers;
 mod outcomes;
 pub mod tables;
