@@ -1,71 +1,45 @@
 -- What opening a job answers, and what it does to the tables.
 use mathlib.Core.Path.{_≡_}
-use mathlib.Core.List.{List, [], _∷_}
-use Prim.Native.Nat.{ℕ, _/_, _<_, min}
-use lib.ListN.{length, set}
+use mathlib.Core.List.{List}
+use Prim.Native.Nat.{ℕ, _<_}
+use lib.ListN.{length}
 use Rattle.std.specs.declared.option.Option.the-variants.{None}
 use Rattle.std.specs.declared.result.Result.{Result}
 use Rattle.std.specs.declared.result.Result.the-variants.{Ok, Err}
 use Rattle.rows.specs.declared.refusals.Refusal.{Refusal}
-use Rattle.rows.specs.declared.refusals.Refusal.the-variants.{BadFile, Used, NoSpace}
-use Rattle.rows.specs.Tasks.{Task}
-use Rattle.task.specs.Files.{Bodies, moveCount, reading, taskOf}
+use Rattle.rows.specs.declared.refusals.Refusal.the-variants.{BadFile}
+use Rattle.task.specs.Files.{Bodies, width, moveCount, reading, taskOf}
 use Rattle.cost.specs.declared.costs.Cost as cost
 use Rattle.store.specs.declared.stores.Store as store
 use Rattle.queue.specs.declared.queues.Queue as queue
-use Rattle.queue.specs.Orders.{Added}
 use Rattle.steps.specs.declared.tables.Tables.{Tables}
-use Rattle.steps.specs.Memories.{Memory, memory, width, written}
+use Rattle.steps.specs.Memories.{Memory, memory}
+use Rattle.steps.specs.Begins.{capacity, New, Began, Unfit}
 use Rattle.search.specs.declared.jobs.Searching.{Searching}
 use Rattle.search.specs.Files.{Refused}
-
--- the capacity of tables for a task: the least of the rows that the bytes hold, the records, the store's and the queue's
--- capacity, and 65,535
-abbrev pub capacity : {K : Type 0} → Task → Memory K → ℕ
-capacity task s = min (min (length (s .bytes) / width task) (length (s .records))) (min (min (s .space) (s .room)) 65535)
-
--- the tables are new for a task: nothing is kept, nothing waits, and the store is over the task's values table
-pub record New {K : Type 0} (task : Task) (s : Memory K) : Type 0 where
-  pub kept : s .kept ≡ []
-  pub waiting : s .waiting ≡ []
-  pub table : s .table ≡ task .values
-
-module _ {K : Type 0} (C : cost.Ghosts K) (task : Task) where
-  -- node 0 is stored and waits: the goal's row, at the cost of nothing, with parent and move 0
-  pub record Began (s t : Memory K) : Type 0 where
-    pub cost : K
-    pub nothing : C .value cost ≡ C .arithmetic .nothing
-    pub joins : C .joins cost ≡ 0
-    pub bytes : t .bytes ≡ written (s .bytes) 0 (task .goal)
-    pub records : t .records ≡ set (s .records) 0 (record { cost = cost; parent = 0; step = 0 })
-    pub waiting : Added [] (record { cost = cost; number = 0 }) (t .waiting)
-    pub kept : t .kept ≡ s .kept
-    pub table : t .table ≡ s .table
-    pub space : t .space ≡ s .space
-    pub room : t .room ≡ s .room
-    pub stored : t .stored ≡ 1
-    pub cover : t .cover ≡ None
 
 -- the grounds of refusal, in order: the file is refused; else the tables are not new; else the capacity is 0
 pub record Declined {K : Type 0} (file : List ℕ) (s : Memory K) (e : Refusal) : Type 0 where
   pub bad : Refused file → e ≡ BadFile
-  pub used : (b : Bodies) → reading file ≡ Ok b → (New (taskOf b) s → ⊥) → e ≡ Used
-  pub full : (b : Bodies) → reading file ≡ Ok b → New (taskOf b) s → (e ≡ NoSpace) × (capacity (taskOf b) s ≡ 0)
+  pub unfit : (b : Bodies) → reading file ≡ Ok b → Unfit (taskOf b) s e
 
 module _ {K S Q : Type 0} (C : cost.Ghosts K) (st : store.Ghosts S) (qu : queue.Ghosts Q K) where
-  pub record Opened (file : List ℕ) (s t : Tables K S Q) (j : Searching) : Type 0 where
-    pub bodies : Bodies
-    pub reads : reading file ≡ Ok bodies
-    pub new : New (taskOf bodies) (memory st qu s 0 None)
-    pub some : 0 < capacity (taskOf bodies) (memory st qu s 0 None)
-    pub capacity : j .capacity ≡ capacity (taskOf bodies) (memory st qu s 0 None)
-    pub variables : j .variables ≡ length (bodies .values)
-    pub moves : j .moves ≡ moveCount bodies
+  -- a job is opened on the bodies of a file, in new tables, which then hold node 0
+  pub record Opened (b : Bodies) (s t : Tables K S Q) (j : Searching) : Type 0 where
+    pub new : New (taskOf b) (memory st qu s 0 None)
+    pub some : 0 < capacity (taskOf b) (memory st qu s 0 None)
+    pub capacity : j .capacity ≡ capacity (taskOf b) (memory st qu s 0 None)
+    pub variables : j .variables ≡ width b
+    pub moves : j .moves ≡ moveCount b
     pub kept : j .kept ≡ 0
     pub waiting : j .waiting ≡ 1
     pub ordered : qu .ordered (t .queue)
-    pub began : Began C (taskOf bodies) (memory st qu s 0 None) (memory st qu t (j .stored) (j .cover))
+    pub began : Began C (taskOf b) (memory st qu s 0 None) (memory st qu t (j .stored) (j .cover))
+
+  abbrev pub OpensOn : Bodies → Tables K S Q → Tables K S Q → Result Searching Refusal → Type 0
+  OpensOn b s t (Ok j) = Opened b s t j
+  OpensOn b s t (Err e) = (t ≡ s) × Unfit (taskOf b) (memory st qu s 0 None) e
 
   abbrev pub Opens : List ℕ → Tables K S Q → Tables K S Q → Result Searching Refusal → Type 0
-  Opens file s t (Ok j) = Opened file s t j
+  Opens file s t (Ok j) = (b : Bodies) × (reading file ≡ Ok b) × Opened b s t j
   Opens file s t (Err e) = (t ≡ s) × Declined file (memory st qu s 0 None) e
