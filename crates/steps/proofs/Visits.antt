@@ -23,8 +23,9 @@ use Rattle.steps.specs.declared.outcomes.Expansion.{Expansion}
 use Rattle.steps.specs.declared.outcomes.Expansion.the-variants as expansion
 use Rattle.steps.specs.declared.tables.Tables.{Tables}
 use Rattle.steps.specs.Memories.{Memory, memory, At, width, rowAt}
-use Rattle.steps.specs.Steps.{Kept, Sound, Upto, Crowded}
-use Rattle.steps.specs.Answers.{Fit, Ready, Steady, Expands, Grown, Spread, ExpandCounts}
+use Rattle.steps.specs.Steps.{Kept, Sound, expands, crowds}
+use Rattle.steps.specs.declared.outcomes.Visited.{Visited}
+use Rattle.steps.specs.Answers.{Fit, Ready, Steady, Expands, Visits, told, Grown, Spread, ExpandCounts, VisitCounts}
 
 pub fetched : (out bytes : List ℕ) (v w n : ℕ) → v ≡ w → out ≡ rowAt v bytes n → out ≡ rowAt w bytes n
 fetched out bytes v w n e h = subst (λ z. out ≡ rowAt z bytes n) e h
@@ -53,24 +54,25 @@ module _ {K : Type 0} (C : cost.Ghosts K) (task : Task) (cap : ℕ) where
   }
 
 module _ {K S Q : Type 0} (C : cost.Ghosts K) (st : store.Ghosts S) (qu : queue.Ghosts Q K) (task : Task) (cap n : ℕ) where
-  pub at-done : (s : Tables K S Q) (p : Progress) (t : Tables K S Q) (x : Expansion) (q : Progress) → x ≡ expansion.Done q → Expands C st qu task cap n s p t (Ok x) → Expands C st qu task cap n s p t (Ok (expansion.Done q))
-  at-done s p t x q e h = subst (λ z. Expands C st qu task cap n s p t (Ok z)) e h
-
-  pub at-crowded : (s : Tables K S Q) (p : Progress) (t : Tables K S Q) (x : Expansion) (q : Progress) → x ≡ expansion.Crowded q → Expands C st qu task cap n s p t (Ok x) → Expands C st qu task cap n s p t (Ok (expansion.Crowded q))
-  at-crowded s p t x q e h = subst (λ z. Expands C st qu task cap n s p t (Ok z)) e h
+  -- from an expansion, a visit
+  pub visits-told : (s mid t : Tables K S Q) (p : Progress) (x : Expansion) (w : Visited) → w ≡ told x
+      → Uncovered (st .kept (s .store)) (rowAt (width task) (s .rows .now) n) → covers (rowAt (width task) (s .rows .now) n) (task .start) ≡ false
+      → Kept C task (rowAt (width task) (s .rows .now) n) (memory st qu s (p .stored) (p .cover)) (memory st qu mid (p .stored) (p .cover))
+      → Expands C st qu task cap n mid p t (Ok x) → Visits C st qu task cap n s p t (Ok w)
+  visits-told s mid t p (expansion.Done q) w e u f k h = subst (λ z. Visits C st qu task cap n s p t (Ok z)) (sym e) (h .0, expands u f k (h .1))
+  visits-told s mid t p (expansion.Crowded q) w e u f k h = subst (λ z. Visits C st qu task cap n s p t (Ok z)) (sym e) (h .0, crowds u f k (h .1 .2) (h .1 .1) (h .1 .3))
 
 module _ {K S Q : Type 0} (st : store.Ghosts S) (qu : queue.Ghosts Q K) (cap : ℕ) where
-  pub counts-done : (s : Tables K S Q) (p : Progress) (t : Tables K S Q) (x : Expansion) (q : Progress) → x ≡ expansion.Done q → ExpandCounts st qu cap s p t (Ok x) → Grown st qu cap s p t q
-  counts-done s p t x q e h = subst (λ z. ExpandCounts st qu cap s p t (Ok z)) e h
-
-  pub counts-crowded : (s : Tables K S Q) (p : Progress) (t : Tables K S Q) (x : Expansion) (q : Progress) → x ≡ expansion.Crowded q → ExpandCounts st qu cap s p t (Ok x) → Grown st qu cap s p t q
-  counts-crowded s p t x q e h = subst (λ z. ExpandCounts st qu cap s p t (Ok z)) e h
-
   -- a row was kept before
-  pub spread-from : (s mid t : Tables K S Q) (p q : Progress) (r : Row) → st .kept (mid .store) ≡ st .kept (s .store) ++ r ∷ [] → mid .queue ≡ s .queue → Grown st qu cap mid p t q → Spread st qu cap s p t q
+  spread-from : (s mid t : Tables K S Q) (p q : Progress) (r : Row) → st .kept (mid .store) ≡ st .kept (s .store) ++ r ∷ [] → mid .queue ≡ s .queue → Grown st qu cap mid p t q → Spread st qu cap s p t q
   spread-from s mid t p q r k e g = record {
     more = g .more;
     within = g .within;
     keeps = ap (λ z. length (st .kept z)) (g .store) ∙ ap length k ∙ length-append (st .kept (s .store)) (r ∷ []);
     waits = omega (arith, g .waits, ap (λ z. length (qu .entries z)) e);
   }
+
+  pub counts-told : (s mid t : Tables K S Q) (p : Progress) (x : Expansion) (w : Visited) (r : Row) → w ≡ told x → st .kept (mid .store) ≡ st .kept (s .store) ++ r ∷ [] → mid .queue ≡ s .queue
+      → ExpandCounts st qu cap mid p t (Ok x) → VisitCounts st qu cap s p t (Ok w)
+  counts-told s mid t p (expansion.Done q) w r e k m h = subst (λ z. VisitCounts st qu cap s p t (Ok z)) (sym e) (spread-from s mid t p q r k m h)
+  counts-told s mid t p (expansion.Crowded q) w r e k m h = subst (λ z. VisitCounts st qu cap s p t (Ok z)) (sym e) (spread-from s mid t p q r k m h)

@@ -68,6 +68,11 @@ module _ {K S Q : Type 0} (C : cost.Ghosts K) (st : store.Ghosts S) (qu : queue.
   Expands s p t (Ok (expansion.Crowded q)) = qu .ordered (t .queue) × ((m : ℕ) × (m < length (task .moves)) × Upto C task cap n (memory st qu s (p .stored) (p .cover)) m (memory st qu t (q .stored) (q .cover)) × Crowded C task cap n m (memory st qu t (q .stored) (q .cover)))
   Expands s p t (Err e) = ⊥
 
+-- how a visit ended, by how its expansion did
+abbrev pub told : Expansion → Visited
+told (expansion.Done q) = visited.Expanded q
+told (expansion.Crowded q) = visited.Crowded q
+
 abbrev pub outcome : Visited → Outcome
 outcome (visited.Skipped p) = skipped
 outcome (visited.Expanded p) = expanded

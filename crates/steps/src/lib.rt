@@ -14,6 +14,9 @@ ghost use Rattle.planning.specs.Plans.{price};
 ghost use Rattle.steps.specs.declared.tables.Record.{Record};
 ghost use Rattle.steps.specs.Memories.{width, rowAt, written};
 ghost use Rattle.steps.specs.Steps.{back};
+ghost use Rattle.steps.specs.Answers.{told};
+ghost use Rattle.rows.specs.Rows.{covers};
+ghost use Rattle.store.specs.Stores.{CoverAnswer};
 
 pub mod begins;
 pub mod numbers;
@@ -22,8 +25,11 @@ pub mod tables;
 pub mod turns;
 
 use cost::costs::Cost;
+use outcomes::Expansion;
+use outcomes::Visited;
 use queue::queues::Queue;
 use rows::inner::regress_row;
+use rows::inner::row_covers;
 use rows::refusals::Refusal;
 use store::stores::Store;
 use tables::Record;
@@ -35,6 +41,33 @@ fn same(a: &[u8], b: &[u8]) -> bool
     ensures { λ r. ⌜ When r (now (a .entry) ≡ now (b .entry)) (now (a .entry) ≡ now (b .entry) → ⊥) ⌝ }
 {
     a == b
+}
+
+// Whether a row agrees with the start.
+fn agrees(accepted: &Accepted<'_>, row: &[u8]) -> bool
+    ensures { λ r. ⌜ r ≡ covers (now (row .entry)) (taskOf (held (now (accepted .entry) .task)) .start) ⌝ }
+{
+    row_covers(row, accepted.task.start)
+}
+
+// The rank of a kept row that covers the row, or nothing if none does.
+fn covering<K: Cost, S: Store, Q: Queue<K>>(
+    t: &Tables<'_, K, S, Q>,
+    row: &[u8],
+) -> Result<Option<u16>, Refusal>
+    ensures { λ r. ⌜ CoverAnswer (S·Store .table (now (t .entry) .store)) (S·Store .kept (now (t .entry) .store)) (now (row .entry)) r ⌝ }
+{
+    t.store.cover(row)
+}
+
+// How a visit ended, by how its expansion did.
+fn told(expansion: Expansion) -> Visited
+    ensures { λ r. ⌜ r ≡ told expansion ⌝ }
+{
+    match expansion {
+        Expansion::Done(q) => Visited::Expanded(q),
+        Expansion::Crowded(q) => Visited::Crowded(q),
+    }
 }
 
 // Notes a record at a place.

@@ -12,7 +12,9 @@ ghost use Rattle.steps.specs.Memories.{memory, width};
 ghost use Rattle.steps.specs.Steps.{Sound, Sized};
 ghost use Rattle.steps.specs.Answers.{Ready, Steady, Eager, Moved, MoveCounts, Expands, ExpandCounts, Visits, VisitCounts, Takes, TakeCounts, Looks, Looked};
 ghost use Rattle.steps.specs.Turns.{Turns, Counts};
+use crate::agrees;
 use crate::cost_at;
+use crate::covering;
 use crate::fetch;
 use crate::grow;
 use crate::move_cost;
@@ -28,10 +30,10 @@ use crate::row_at;
 use crate::same;
 use crate::tables::Record;
 use crate::tables::Tables;
+use crate::told;
 use cost::costs::Cost;
 use queue::queues::Queue;
 use rows::checks::fits;
-use rows::inner::row_covers;
 use rows::refusals::Refusal;
 use store::stores::Store;
 use task::accepted::Accepted;
@@ -58,7 +60,7 @@ fn expand_move<K: Cost, S: Store, Q: Queue<K>>(
 {
     match regress(accepted, m, row_at(t, n, scratch.len()), scratch) {
         None => Ok(Some(p)),
-        Some(price) => match t.store.cover(scratch) {
+        Some(price) => match covering(t, scratch) {
             Err(e) => Err(e),
             Ok(found) => match found {
                 Some(k) => Ok(Some(Progress {
@@ -142,7 +144,7 @@ fn visit<K: Cost, S: Store, Q: Queue<K>>(
     ensures visits { λ r. ⌜ (Q·Queue .ordered (now (t .entry) .queue) → Steady K·Cost (taskOf (held (now (accepted .entry) .task))) cap n (memory S·Store Q·Queue (now (t .entry)) (p .stored) (p .cover)) → Visits K·Cost S·Store Q·Queue (taskOf (held (now (accepted .entry) .task))) cap n (now (t .entry)) p (now (t .exit)) r) ⌝ }
 {
     fetch(t, n, scratch);
-    match t.store.cover(scratch) {
+    match covering(t, scratch) {
         Err(e) => Err(e),
         Ok(known) => match known {
             Some(k) => Ok(Visited::Skipped(Progress {
@@ -150,17 +152,14 @@ fn visit<K: Cost, S: Store, Q: Queue<K>>(
                 cover: Some(k),
             })),
             None => {
-                if row_covers(scratch, accepted.task.start) {
+                if agrees(accepted, scratch) {
                     return Ok(Visited::Found(n));
                 }
                 match t.store.keep(scratch) {
                     Err(e) => Err(e),
                     Ok(()) => match expand(accepted, n, t, scratch, p, cap) {
                         Err(e) => Err(e),
-                        Ok(expansion) => match expansion {
-                            Expansion::Done(q) => Ok(Visited::Expanded(q)),
-                            Expansion::Crowded(q) => Ok(Visited::Crowded(q)),
-                        },
+                        Ok(expansion) => Ok(told(expansion)),
                     },
                 }
             }

@@ -11,10 +11,10 @@ use Rattle.task.specs.Files.{taskOf}
 use Rattle.task.proofs.Judgings.{counted}
 use Rattle.steps.specs.declared.tables.Tables.{Tables}
 use Rattle.steps.specs.Memories.{memory}
-use Rattle.steps.specs.Steps.{skips, finds, expands, crowds, Kept}
+use Rattle.steps.specs.Steps.{skips, finds, Kept}
 use Rattle.steps.proofs.Parts.{row-within}
 use Rattle.steps.proofs.Moves.{found-some, found-none}
-use Rattle.steps.proofs.Visits.{fetched, ready-kept, at-done, at-crowded, counts-done, counts-crowded, spread-from}
+use Rattle.steps.proofs.Visits.{fetched, ready-kept, visits-told, counts-told}
 use Rattle.steps.proofs.turns.visit.Needs as need
 
 pub fetch-requires : need.fetch-requires
@@ -23,13 +23,13 @@ fetch-requires g c κs = record {
   short = omega (arith, counted (held (c .args .accepted .now .task)) (c .args .accepted .now .counted) .few, c .pre .scratch);
 }
 
-pub returns-then-row-covers : need.returns-then-row-covers
-returns-then-row-covers g c =
+pub returns-then-agrees : need.returns-then-agrees
+returns-then-agrees g c =
     let task = taskOf (held (c .args .accepted .now .task)) in
     let e = fetched _ (c .args .t .now .rows .now) _ _ (c .args .n) (c .pre .scratch) (c .fetch .ensures) in
     record {
       counts = c .pre .node;
-      visits = λ o sd. (o, finds (subst (λ z. Uncovered (g .S·Store .kept (c .args .t .now .store)) z) e (found-none (c .in-None .is) (c .in-Ok .ensures tt .1))) (ap (λ z. covers z (task .start)) (sym e) ∙ sym (c .if-row-covers .ensures tt)));
+      visits = λ o sd. (o, finds (subst (λ z. Uncovered (g .S·Store .kept (c .args .t .now .store)) z) e (found-none (c .in-None .is) (c .in-Ok .ensures tt .1))) (ap (λ z. covers z (task .start)) (sym e) ∙ sym (c .if-agrees .ensures tt)));
     }
 
 pub returns-in-Some : need.returns-in-Some
@@ -58,34 +58,18 @@ returns-in-Err-expand g c =
           (record { kept = c .in-Ok-keep .ensures tt .answer .3; bytes = refl; records = refl; table = c .keep .ensures .values; space = c .keep .ensures .space; waiting = refl; room = refl; stored = refl; cover = refl }));
     }
 
-pub returns-in-Done : need.returns-in-Done
-returns-in-Done g c =
+pub returns-in-Ok-expand : need.returns-in-Ok-expand
+returns-in-Ok-expand g c =
     let task = taskOf (held (c .args .accepted .now .task)) in
     let e = fetched _ (c .args .t .now .rows .now) _ _ (c .args .n) (c .pre .scratch) (c .fetch .ensures) in
     let kept = g .S·Store .kept (c .args .t .now .store) in
     let mid : Tables (g .K .Denot) (g .S .Denot) (g .Q .Denot) = record { rows = c .args .t .now .rows; records = c .args .t .now .records; store = c .keep .last .self; queue = c .args .t .now .queue } in
     record {
-      counts = spread-from (g .S·Store) (g .Q·Queue) (c .args .cap) (c .args .t .now) mid (c .expand .last .t) (c .args .p) (c .in-Done .q) _ (c .in-Ok-keep .ensures tt .answer .3) refl
-          (counts-done (g .S·Store) (g .Q·Queue) (c .args .cap) mid (c .args .p) (c .expand .last .t) _ (c .in-Done .q) (c .in-Done .is) (c .in-Ok-expand .ensures tt .counts));
+      counts = counts-told (g .S·Store) (g .Q·Queue) (c .args .cap) (c .args .t .now) mid (c .expand .last .t) (c .args .p) (c .in-Ok-expand .expansion) (c .told .result) _ (c .told .ensures) (c .in-Ok-keep .ensures tt .answer .3) refl (c .in-Ok-expand .ensures tt .counts);
       visits = λ o sd.
           let kp : Kept (g .K·Cost) task _ (memory (g .S·Store) (g .Q·Queue) (c .args .t .now) (c .args .p .stored) (c .args .p .cover)) (memory (g .S·Store) (g .Q·Queue) mid (c .args .p .stored) (c .args .p .cover))
           = record { kept = c .in-Ok-keep .ensures tt .answer .3 ∙ ap (λ z. kept ++ z ∷ []) e; bytes = refl; records = refl; table = c .keep .ensures .values; space = c .keep .ensures .space; waiting = refl; room = refl; stored = refl; cover = refl } in
-          let u = at-done (g .K·Cost) (g .S·Store) (g .Q·Queue) task (c .args .cap) (c .args .n) mid (c .args .p) (c .expand .last .t) _ _ (c .in-Done .is) (c .in-Ok-expand .ensures tt .expands o (ready-kept (g .K·Cost) task (c .args .cap) sd kp)) in
-          (u .0, expands (subst (λ z. Uncovered kept z) e (found-none (c .in-None .is) (c .in-Ok .ensures tt .1))) (ap (λ z. covers z (task .start)) (sym e) ∙ sym (c .if-row-covers .ensures tt)) kp (u .1));
-    }
-
-pub returns-in-Crowded : need.returns-in-Crowded
-returns-in-Crowded g c =
-    let task = taskOf (held (c .args .accepted .now .task)) in
-    let e = fetched _ (c .args .t .now .rows .now) _ _ (c .args .n) (c .pre .scratch) (c .fetch .ensures) in
-    let kept = g .S·Store .kept (c .args .t .now .store) in
-    let mid : Tables (g .K .Denot) (g .S .Denot) (g .Q .Denot) = record { rows = c .args .t .now .rows; records = c .args .t .now .records; store = c .keep .last .self; queue = c .args .t .now .queue } in
-    record {
-      counts = spread-from (g .S·Store) (g .Q·Queue) (c .args .cap) (c .args .t .now) mid (c .expand .last .t) (c .args .p) (c .in-Crowded .q) _ (c .in-Ok-keep .ensures tt .answer .3) refl
-          (counts-crowded (g .S·Store) (g .Q·Queue) (c .args .cap) mid (c .args .p) (c .expand .last .t) _ (c .in-Crowded .q) (c .in-Crowded .is) (c .in-Ok-expand .ensures tt .counts));
-      visits = λ o sd.
-          let kp : Kept (g .K·Cost) task _ (memory (g .S·Store) (g .Q·Queue) (c .args .t .now) (c .args .p .stored) (c .args .p .cover)) (memory (g .S·Store) (g .Q·Queue) mid (c .args .p .stored) (c .args .p .cover))
-          = record { kept = c .in-Ok-keep .ensures tt .answer .3 ∙ ap (λ z. kept ++ z ∷ []) e; bytes = refl; records = refl; table = c .keep .ensures .values; space = c .keep .ensures .space; waiting = refl; room = refl; stored = refl; cover = refl } in
-          let u = at-crowded (g .K·Cost) (g .S·Store) (g .Q·Queue) task (c .args .cap) (c .args .n) mid (c .args .p) (c .expand .last .t) _ _ (c .in-Crowded .is) (c .in-Ok-expand .ensures tt .expands o (ready-kept (g .K·Cost) task (c .args .cap) sd kp)) in
-          (u .0, crowds (subst (λ z. Uncovered kept z) e (found-none (c .in-None .is) (c .in-Ok .ensures tt .1))) (ap (λ z. covers z (task .start)) (sym e) ∙ sym (c .if-row-covers .ensures tt)) kp (u .1 .2) (u .1 .1) (u .1 .3));
+          visits-told (g .K·Cost) (g .S·Store) (g .Q·Queue) task (c .args .cap) (c .args .n) (c .args .t .now) mid (c .expand .last .t) (c .args .p) (c .in-Ok-expand .expansion) (c .told .result) (c .told .ensures)
+          (subst (λ z. Uncovered kept z) e (found-none (c .in-None .is) (c .in-Ok .ensures tt .1))) (ap (λ z. covers z (task .start)) (sym e) ∙ sym (c .if-agrees .ensures tt)) kp
+          (c .in-Ok-expand .ensures tt .expands o (ready-kept (g .K·Cost) task (c .args .cap) sd kp));
     }
