@@ -1,3 +1,4 @@
 pub mod jobs;
 pub mod opens;
-pub mod works;
+mod reading;
+mod works;
