@@ -1,0 +1,4 @@
+pub mod jobs;
+pub mod opens;
+mod reading;
+mod works;
