@@ -39,21 +39,38 @@ fn prepend<K: Cost>(price: u32, rest: K) -> Result<K, Refusal>
     }
 }
 
+// Holds the proof of what joining keeps.
+fn joining_keeps<K: Cost>()
+    ensures kept { λ _. ⌜ ((ps qs rs : List ℕ) → NotAfter (K·Cost .arithmetic) (costOf (K·Cost .arithmetic) qs) (costOf (K·Cost .arithmetic) rs) → NotAfter (K·Cost .arithmetic) (costOf (K·Cost .arithmetic) (ps ++ qs)) (costOf (K·Cost .arithmetic) (ps ++ rs))) ⌝ }
+    ensures rest { λ _. ⌜ ((ps qs : List ℕ) → NotAfter (K·Cost .arithmetic) (costOf (K·Cost .arithmetic) qs) (costOf (K·Cost .arithmetic) (ps ++ qs))) ⌝ }
+{}
+
 // In every kind of cost: of two plans that begin alike, one whose rest does not cost more does not cost more; and no plan
-// costs less than its rest. The number says nothing.
-pub fn cheaper_rests<K: Cost>() -> u8
+// costs less than its rest. So whether a plan's rest costs less than another's is asked of the rests alone, as here.
+pub fn cheaper_rests<K: Cost>(rest: K, other: K) -> bool
+    ensures value { λ r. ⌜ r ≡ K·Cost .arithmetic .before (K·Cost .value rest) (K·Cost .value other) ⌝ }
     ensures kept { λ _. ⌜ ((ps qs rs : List ℕ) → NotAfter (K·Cost .arithmetic) (costOf (K·Cost .arithmetic) qs) (costOf (K·Cost .arithmetic) rs) → NotAfter (K·Cost .arithmetic) (costOf (K·Cost .arithmetic) (ps ++ qs)) (costOf (K·Cost .arithmetic) (ps ++ rs))) ⌝ }
     ensures rest { λ _. ⌜ ((ps qs : List ℕ) → NotAfter (K·Cost .arithmetic) (costOf (K·Cost .arithmetic) qs) (costOf (K·Cost .arithmetic) (ps ++ qs))) ⌝ }
 {
-    0
+    joining_keeps::<K>();
+    rest.precedes(other)
 }
 
-// A plan's cost, however long it is: in Spend the sum of the prices, in SpendThenMoves the sum and how many they are, in
-// Peak the largest, or 0 where there is none. The number says nothing.
+// Holds the proof of what plans cost in each kind.
+fn plans_cost()
+    ensures spend { λ _. ⌜ ((ps : List ℕ) → costOf spend ps ≡ sum ps) ⌝ }
+    ensures spend_then_moves { λ _. ⌜ ((ps : List ℕ) → costOf spend-then-moves ps ≡ tally (sum ps) (length ps)) ⌝ }
+    ensures peak { λ _. ⌜ ((ps : List ℕ) → Largest ps (costOf peak ps)) ⌝ }
+{}
+
+// How many kinds there are. A plan's cost, however long it is: in Spend the sum of the prices, in SpendThenMoves the sum and how
+// many they are, in Peak the largest, or 0 where there is none.
 pub fn kind_costs() -> u8
+    ensures kinds { λ r. ⌜ r ≡ 3 ⌝ }
     ensures spend { λ _. ⌜ ((ps : List ℕ) → costOf spend ps ≡ sum ps) ⌝ }
     ensures spend_then_moves { λ _. ⌜ ((ps : List ℕ) → costOf spend-then-moves ps ≡ tally (sum ps) (length ps)) ⌝ }
     ensures peak { λ _. ⌜ ((ps : List ℕ) → Largest ps (costOf peak ps)) ⌝ }
 {
-    0
+    plans_cost();
+    3
 }

@@ -10,7 +10,7 @@ use Rattle.std.specs.declared.option.Option.{Option}
 use Rattle.std.specs.declared.option.Option.the-variants.{Some, None}
 use Rattle.std.specs.declared.result.Result.{Result}
 use Rattle.std.specs.declared.result.Result.the-variants.{Ok, Err}
-use Rattle.rows.specs.Rows.{Row, Move, fixed}
+use Rattle.rows.specs.Rows.{Row, Move, fixed, regressed}
 use Rattle.rows.specs.Refusals.{number, word}
 use Rattle.task.specs.declared.faults.Fault.{Fault}
 use Rattle.task.specs.Files.{Bodies, width, moveCount, moveAt, nameIn, reading}
@@ -44,13 +44,22 @@ abbrev pub settings : ℕ → Row → List ℕ
 settings v [] = []
 settings v (b ∷ bs) = setting v b ++ settings (v + 1) bs
 
--- a move's number, its name and price, and the texts of what it needs and sets
-abbrev pub moveText : ℕ → List ℕ → ℕ → List ℕ → List ℕ → List ℕ
-moveText k name price needs sets =
-    codes "move " ++ (decimal k ++ (codes " " ++ (name ++ (codes ": price " ++ (decimal price ++ (codes ", needs" ++ (needs ++ (codes ", sets" ++ (sets ++ newline)))))))))
+-- the goal before a move, if it is regressed over it
+abbrev pub goalText : Option Row → List ℕ
+goalText None = codes "not regressed"
+goalText (Some row) = codes "regressed:" ++ settings 0 row
 
-abbrev pub moveLine : ℕ → List ℕ → Move → List ℕ
-moveLine k name m = moveText k name (m .price) (settings 0 (m .condition)) (settings 0 (m .effect))
+-- what a move needs and sets, and the goal before it
+abbrev pub rowsText : List ℕ → List ℕ → List ℕ → List ℕ
+rowsText needs sets before = codes "needs" ++ (needs ++ (codes ", sets" ++ (sets ++ (codes ", goal " ++ before))))
+
+-- a move's number, its name and price, and that
+abbrev pub moveText : ℕ → List ℕ → ℕ → List ℕ → List ℕ
+moveText k name price rows = codes "move " ++ (decimal k ++ (codes " " ++ (name ++ (codes ": price " ++ (decimal price ++ (codes ", " ++ (rows ++ newline)))))))
+
+abbrev pub moveLine : ℕ → List ℕ → Move → Row → List ℕ
+moveLine k name m goal =
+    moveText k name (m .price) (rowsText (settings 0 (m .condition)) (settings 0 (m .effect)) (goalText (regressed m goal)))
 
 abbrev pub nameText : Option (List ℕ × ℕ) → List ℕ
 nameText None = []
@@ -58,7 +67,7 @@ nameText (Some p) = p .0
 
 -- the line of the bodies' move k
 abbrev pub stepLine : Bodies → ℕ → List ℕ
-stepLine b k = moveLine k (nameText (nameIn 0 (b .names) k)) (moveAt (width b) (b .moves) k)
+stepLine b k = moveLine k (nameText (nameIn 0 (b .names) k)) (moveAt (width b) (b .moves) k) (b .goal)
 
 -- so many moves from k on
 abbrev pub stepLines : Bodies → ℕ → ℕ → List ℕ

@@ -3,7 +3,7 @@ ghost use Prim.Native.Nat.{_<_};
 ghost use lib.ListN.{length};
 ghost use Rattle.std.specs.Of.String.{string-bytes};
 ghost use Rattle.std.specs.Vec.{made};
-ghost use Rattle.task.specs.Files.{moveCount};
+ghost use Rattle.task.specs.Files.{width, moveCount};
 ghost use Rattle.task.specs.Answers.{held};
 ghost use Rattle.description.specs.Texts.{variableLines, stepLine, stepLines, taskText, described};
 use crate::move_line;
@@ -16,6 +16,9 @@ use task::read;
 
 // The bytes of the longest input that is read.
 pub const LONGEST: usize = 32_768;
+
+// The variables that a task can have.
+const MOST_VARIABLES: usize = 64;
 
 // The lines of all variables.
 fn variables_text(
@@ -36,28 +39,39 @@ fn variables_text(
     Ok(text)
 }
 
-// The line of a task's move k.
-fn step_line(heap: Global, accepted: &Accepted<'_>, k: usize) -> Result<String, AllocError>
-    requires { ⌜ k < moveCount (held (now accepted .task)) ⌝ }
+// The line of a task's move k, with a buffer of V bytes for the goal before it.
+fn step_line(
+    heap: Global,
+    accepted: &Accepted<'_>,
+    k: usize,
+    before: &mut [u8],
+) -> Result<String, AllocError>
+    requires there { ⌜ k < moveCount (held (now accepted .task)) ⌝ }
+    requires before { ⌜ length (now before) ≡ width (held (now accepted .task)) ⌝ }
     ensures { λ r. ⌜ made r (λ t. string-bytes t ≡ stepLine (held (now (accepted .entry) .task)) k) ⌝ }
 {
     match accepted.step(k) {
         None => Ok(String::new(heap)),
         Some(step) => match accepted.name(k) {
             None => Ok(String::new(heap)),
-            Some((name, _)) => move_line(heap, k, name, step.price, step.condition, step.effect),
+            Some((name, _)) => move_line(heap, k, name, &step, accepted.task.goal, before),
         },
     }
 }
 
 // The lines of all moves.
-fn steps_text(heap: Global, accepted: &Accepted<'_>) -> Result<String, AllocError>
+fn steps_text(
+    heap: Global,
+    accepted: &Accepted<'_>,
+    before: &mut [u8],
+) -> Result<String, AllocError>
+    requires { ⌜ length (now before) ≡ width (held (now accepted .task)) ⌝ }
     ensures { λ r. ⌜ made r (λ t. string-bytes t ≡ stepLines (held (now (accepted .entry) .task)) 0 (moveCount (held (now (accepted .entry) .task)))) ⌝ }
 {
     let mut text = String::new(heap);
     let count = accepted.count();
     for k in 0..count {
-        let line = step_line(heap, accepted, k)?;
+        let line = step_line(heap, accepted, k, before)?;
         text.push_str(line.as_str())?;
     }
     Ok(text)
@@ -73,7 +87,8 @@ fn task_text(heap: Global, accepted: &Accepted<'_>) -> Result<String, AllocError
         accepted.task.start,
         accepted.task.goal,
     )?;
-    let steps = steps_text(heap, accepted)?;
+    let mut before = [0; MOST_VARIABLES];
+    let steps = steps_text(heap, accepted, &mut before[0..accepted.task.values.len()])?;
     text.push_str(steps.as_str())?;
     Ok(text)
 }

@@ -1,15 +1,14 @@
 -- The heap of a row of entries.
-use mathlib.Core.Path.{_≡_, refl, sym, ap, subst, _∙_}
-use mathlib.Core.Bool.{Bool, true, false}
-use mathlib.Core.List.{List, [], _∷_, _++_}
-use mathlib.Core.Logic.{_≢_, _⊎_, inl, inr, ⊎-elim}
+use mathlib.Core.Path.{_≡_, sym, ap, subst, _∙_}
+use mathlib.Core.Bool.{true, false}
+use mathlib.Core.List.{List}
+use mathlib.Core.Logic.{_≢_, _⊎_, ⊎-elim}
 use Prim.Native.Nat.{ℕ, _+_, _-_, _*_, _/_, _<_, _≤_}
 use native.Mathlib.Omega.{arith}
-use lib.ListN.{length, getD, set, take, drop}
+use lib.ListN.{length, getD, set, take}
 use Rattle.std.specs.Slices.{Shuffled}
 use Rattle.std.proofs.shelf.Lists.{length-take-le, getD-set-other}
-use Rattle.std.proofs.shelf.Edits.{Swapped}
-use Rattle.std.proofs.shelf.Sorted.{shuffled-trans, shuffled-swap, shuffled-refl}
+use Rattle.std.proofs.shelf.Sorted.{shuffled-trans, shuffled-swap}
 use Rattle.cost.specs.declared.costs.Cost as cost
 use Rattle.queue.specs.declared.entries.Entry.{Entry}
 use Rattle.queue.specs.Orders.{goes, Leads, Least}
@@ -18,7 +17,7 @@ use Rattle.std.proofs.shelf.Tests.{cases-eq}
 use Rattle.queue.proofs.Order.{goes-refl, goes-asym, goes-trans}
 use Rattle.queue.proofs.Fronts.{take-exchanged}
 use Rattle.queue.proofs.Scans.{some-of, leads-least}
-use Rattle.heap.proofs.Sifts.{up, UpTo, DownTo, up-step, up-done, down-step, down-done, root-first}
+use Rattle.heap.proofs.Sifts.{UpTo, DownTo, up-step, up-done, down-step, down-done, root-first}
 
 module _ {K : Type 0} (C : cost.Ghosts K) where
   -- x does not come after y

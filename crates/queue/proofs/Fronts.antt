@@ -1,12 +1,11 @@
 -- Collections as the first places of a row.
-use mathlib.Core.Path.{_≡_, refl, sym, ap, subst, _∙_}
+use mathlib.Core.Path.{_≡_, sym, ap, subst, _∙_}
 use mathlib.Core.List.{List, [], _∷_, _++_}
-use Prim.Native.Nat.{ℕ, _+_, _-_, _<_, _≤_, min}
+use Prim.Native.Nat.{ℕ, _+_, _-_, _<_, _≤_}
 use native.Mathlib.Omega.{arith}
 use lib.ListN.{length, getD, set, take, drop}
 use Rattle.std.specs.Slices.{Shuffled}
-use Rattle.std.specs.shelf.Lists.{Has}
-use Rattle.std.proofs.shelf.Lists.{take-more-set, take-more, take-set, getD-take, length-take-le, length-set, getD-read, getD-append-left, set-append-left, take-at, take-append-drop}
+use Rattle.std.proofs.shelf.Lists.{take-more-set, take-set, length-take-le, length-set, getD-read, getD-append-left, set-append-left, take-at, take-append-drop}
 use Rattle.std.proofs.shelf.Sorted.{shuffled-to-front, shuffled-sym, shuffled-trans, shuffled-swap, shuffled-cons}
 use Rattle.std.proofs.shelf.Edits.{exchanged-is}
 use Rattle.std.specs.Holes.{exchanged}

@@ -1,12 +1,8 @@
 -- The order on entries: total, transitive.
-use mathlib.Core.Path.{_≡_, refl, sym, ap, _∙_}
-use mathlib.Core.Bool.{Bool, true, false, _||_, _&&_, not}
-use mathlib.Core.Logic.{_⊎_, inl, inr}
-use Prim.Native.Nat.{ℕ, _<_, _≤_}
+use mathlib.Core.Path.{_≡_}
+use mathlib.Core.Bool.{true, false}
 use native.Mathlib.Omega.{arith}
-use lib.Dec.{ltb}
 use Rattle.std.proofs.shelf.Ways.{tells}
-use Rattle.std.proofs.shelf.Tests.{cases-bool}
 use Rattle.cost.specs.declared.costs.Cost as cost
 use Rattle.queue.specs.declared.entries.Entry.{Entry}
 use Rattle.queue.specs.Orders.{goes}

@@ -1,7 +1,7 @@
 -- Entries that are put, or taken, one after the other.
 use mathlib.Core.Path.{_≡_, refl, sym, ap, subst, _∙_}
 use mathlib.Core.Bool.{false}
-use mathlib.Core.List.{List, [], _∷_, _++_, map, append-assoc}
+use mathlib.Core.List.{List, [], _∷_, _++_, append-assoc}
 use mathlib.Core.Logic.{⊎-elim}
 use Prim.Native.Nat.{ℕ, suc, _+_, _<_, _≤_, min}
 use native.Mathlib.Nat.{add-zero}
@@ -11,7 +11,7 @@ use Rattle.std.specs.Slices.{Shuffled}
 use Rattle.std.specs.Results.{Cases}
 use Rattle.std.specs.declared.result.Result.{Result}
 use Rattle.std.specs.declared.result.Result.the-variants.{Ok, Err}
-use Rattle.std.specs.shelf.Lists.{All, Has}
+use Rattle.std.specs.shelf.Lists.{All}
 use Rattle.std.proofs.shelf.Elements.{all-push, all-weaker, all-has, all-has-itself}
 use Rattle.std.proofs.shelf.Lists.{take-more, length-take-le, map-push, drop-drop, drop-set-lt, take-all}
 use Rattle.std.proofs.shelf.Tests.{cases-lt}

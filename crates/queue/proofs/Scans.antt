@@ -1,14 +1,12 @@
 -- The first place of a row, one place more at a time.
-use mathlib.Core.Path.{_≡_, refl, sym, ap, subst, _∙_}
-use mathlib.Core.Bool.{Bool, true, false}
-use mathlib.Core.List.{List, [], _∷_, _++_}
-use mathlib.Core.Logic.{_⊎_, inl, inr, ⊎-elim}
+use mathlib.Core.Path.{_≡_, sym, subst, _∙_}
+use mathlib.Core.Bool.{true, false}
+use mathlib.Core.List.{List, [], _∷_}
 use Prim.Native.Nat.{ℕ, _+_, _-_, _<_, _≤_}
 use native.Mathlib.Omega.{arith}
 use borrow.Author.Count.{below-more}
 use native.Mathlib.Nat.{not-suc-le-zero}
-use lib.ListN.{length, getD, set, take, drop}
-use Rattle.std.specs.shelf.Lists.{Has}
+use lib.ListN.{length, getD, set, take}
 use Rattle.std.proofs.shelf.Lists.{getD-take, length-take-le, getD-read, getD-default}
 use Rattle.cost.specs.declared.costs.Cost as cost
 use Rattle.queue.specs.declared.entries.Entry.{Entry}

@@ -1,6 +1,5 @@
 ghost use mathlib.Core.Path.{_≡_};
-ghost use Prim.Native.Nat.{ℕ, _<_};
-ghost use lib.ListN.{length, getD};
+ghost use Prim.Native.Nat.{_<_};
 ghost use Rattle.queue.specs.declared.entries.Entry.{Entry};
 ghost use Rattle.queue.specs.Orders.{goes};
 ghost use Rattle.queue.specs.Places.{used};

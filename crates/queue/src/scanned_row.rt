@@ -1,7 +1,7 @@
 ghost use mathlib.Core.Path.{_≡_};
-ghost use mathlib.Core.List.{List, []};
-ghost use Prim.Native.Nat.{ℕ, _-_, _<_, _≤_, min};
-ghost use lib.ListN.{length, getD, take};
+ghost use mathlib.Core.List.{[]};
+ghost use Prim.Native.Nat.{_-_, _<_, _≤_, min};
+ghost use lib.ListN.{length, take};
 ghost use denote.Ref.{now, name};
 ghost use Rattle.queue.specs.declared.entries.Entry.{Entry};
 ghost use Rattle.queue.specs.Orders.{Least, Leads, Names, Added};

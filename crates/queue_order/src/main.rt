@@ -70,7 +70,30 @@ fn show_kind<K: Cost>(
     show_order(rt, &mut Heap::new(memory), costs)
 }
 
+// Prints the bytes of a cost and of an entry in each kind.
+fn show_sizes(rt: &LibcRuntime) -> io::Result<()> {
+    println!(
+        rt,
+        "Spend, {} and {}",
+        size_of::<Spend>(),
+        size_of::<Entry<Spend>>()
+    )?;
+    println!(
+        rt,
+        "SpendThenMoves, {} and {}",
+        size_of::<SpendThenMoves>(),
+        size_of::<Entry<SpendThenMoves>>()
+    )?;
+    println!(
+        rt,
+        "Peak, {} and {}",
+        size_of::<Peak>(),
+        size_of::<Entry<Peak>>()
+    )
+}
+
 fn main(rt: LibcRuntime) -> io::Result<()> {
+    show_sizes(&rt)?;
     let spend = Spend::nothing();
     show_kind(
         &rt,

@@ -1,4 +1,6 @@
 ghost use mathlib.Core.Path.{_≡_};
+ghost use mathlib.Core.Bool.{not};
+ghost use lib.Dec.{eqb};
 ghost use lib.ListN.{length};
 ghost use Rattle.rows.specs.Rows.{fits, complete, valued, usable};
 
@@ -35,12 +37,19 @@ pub fn is_complete(values: &[u8], row: &[u8]) -> bool
     true
 }
 
+// Whether a variable with this number of values has one.
+fn has_value(n: u8) -> bool
+    ensures { λ r. ⌜ r ≡ not (eqb n 0) ⌝ }
+{
+    n != 0
+}
+
 // Whether every variable has a value.
 pub fn has_values(values: &[u8]) -> bool
     ensures { λ r. ⌜ r ≡ valued (now (values .entry)) ⌝ }
 {
     for n in values {
-        if *n == 0 {
+        if !has_value(*n) {
             return false;
         }
     }

@@ -1,15 +1,15 @@
 -- The laws of every store, from how a capacity is measured.
-use mathlib.Core.Path.{_≡_, refl, sym, ap, subst, _∙_}
-use mathlib.Core.List.{List, []}
+use mathlib.Core.Path.{_≡_}
+use mathlib.Core.List.{List}
 use mathlib.Core.Bool.{Bool, true, false, cond}
-use Prim.Native.Nat.{ℕ, _+_, _*_, _≤_, _<_, _/_, min}
+use Prim.Native.Nat.{ℕ, _≤_, min}
 use native.Mathlib.Omega.{arith}
-use lib.ListN.{length, getD}
+use lib.ListN.{length}
 use Rattle.rows.specs.Rows.{Row, usable}
 use Rattle.store.specs.Stores.{Distinct, AllFit, spaceOf, Lawful}
 use Rattle.store.specs.Blocks.{rowsOf, length-rows}
 
-space-short : (b : Bool) (n : ℕ) → cond b (min 65535 n) 0 ≤ 65535
+pub space-short : (b : Bool) (n : ℕ) → cond b (min 65535 n) 0 ≤ 65535
 space-short true n = omega arith
 space-short false n = omega arith
 

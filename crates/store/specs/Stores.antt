@@ -3,7 +3,7 @@
 -- A store means a list of distinct rows in the order kept (a row's place in it, from 0, is its rank), the values table that they
 -- fit, and a capacity.
 use mathlib.Core.Path.{_≡_}
-use mathlib.Core.Bool.{Bool, true, false, cond}
+use mathlib.Core.Bool.{true, false, cond}
 use mathlib.Core.List.{List, [], _∷_, _++_}
 use Prim.Native.Nat.{ℕ, _/_, _<_, _≤_, min}
 use lib.ListN.{length, getD}

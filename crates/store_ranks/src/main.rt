@@ -1,5 +1,11 @@
 // Keeps rows in both makes of store, asks both, and shows what they answer side by side.
 // With any argument it measures them instead.
+ghost use mathlib.Core.Path.{_≡_};
+ghost use Prim.Native.Nat.{_-_};
+ghost use lib.ListN.{length, set};
+ghost use Rattle.store.specs.Stores.{spaceOf};
+ghost use Rattle.trie.specs.Cells.{blank};
+
 mod measure;
 
 use rows::checks::MARK;
@@ -123,12 +129,18 @@ fn compare<S: Store, T: Store>(rt: &LibcRuntime, rows: &mut S, trie: &mut T) -> 
     println!(rt, "rows kept | {a} of {b} | {c} of {d}")
 }
 
-fn row_capacity(values: &[u8], bytes: &mut [u8]) -> usize {
+fn row_capacity(values: &[u8], bytes: &mut [u8]) -> usize
+    ensures value { λ r. ⌜ r ≡ spaceOf (now (values .entry)) (length (now (bytes .entry))) ⌝ }
+    ensures same { λ _. ⌜ now (bytes .exit) ≡ now (bytes .entry) ⌝ }
+{
     let rows = RowStore::new(values, bytes);
     rows.capacity()
 }
 
-fn trie_capacity(values: &[u8], cells: &mut [Cell]) -> usize {
+fn trie_capacity(values: &[u8], cells: &mut [Cell]) -> usize
+    ensures value { λ r. ⌜ r ≡ spaceOf (now (values .entry)) (length (now (cells .entry)) - 1) ⌝ }
+    ensures root { λ _. ⌜ now (cells .exit) ≡ set (now (cells .entry)) 0 blank ⌝ }
+{
     let trie = Trie::new(values, cells);
     trie.capacity()
 }

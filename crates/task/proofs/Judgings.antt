@@ -143,3 +143,17 @@ not-long b j =
     let r : recordSize (width b) ≤ 132 = omega (arith, c .few) in
     let m : moveCount b * recordSize (width b) ≤ 4096 * 132 = mul-le-mul (c .not-many) r in
     omega (arith, c .few, c .start, c .goal, c .records, c .not-many, n, m)
+
+-- conditions, effects and the goal have a byte for each variable
+pub record Level (b : Bodies) (m : Move) : Type 0 where
+  pub condition : length (m .condition) ≡ width b
+  pub effect : length (m .effect) ≡ width b
+
+pub level : (b : Bodies) → positions b ≡ true → (k : ℕ) → k < moveCount b → Level b (moveAt (width b) (b .moves) k)
+level b h k l =
+    let p = and-parts (valued (b .values)) _ h in
+    let q = and-parts (complete (b .values) (b .start)) _ (p .1) in
+    let r = and-parts (fits (b .values) (b .goal)) (each (λ i. rowsFit (b .values) (moveAt (width b) (b .moves) i)) (moveCount b)) (q .1) in
+    let m = moveAt (width b) (b .moves) k in
+    let f = and-parts (fits (b .values) (m .condition)) (fits (b .values) (m .effect)) (each-at (λ i. rowsFit (b .values) (moveAt (width b) (b .moves) i)) (moveCount b) (r .1) k l) in
+    record { condition = sym (both-length fits-at (b .values) (m .condition) (f .0)); effect = sym (both-length fits-at (b .values) (m .effect) (f .1)) }

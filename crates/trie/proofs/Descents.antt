@@ -1,13 +1,13 @@
 -- The way down along a row's own bytes.
-use mathlib.Core.Path.{_≡_, refl, sym, ap, subst, _∙_}
-use mathlib.Core.List.{List, [], _∷_}
-use mathlib.Core.Logic.{_⊎_, inl, inr}
-use Prim.Native.Nat.{ℕ, zero, suc, _+_, _-_, _*_, _<_, _≤_}
+use mathlib.Core.Path.{_≡_, sym, ap, subst, _∙_}
+use mathlib.Core.List.{List}
+use mathlib.Core.Logic.{inl, inr}
+use Prim.Native.Nat.{ℕ, suc, _+_, _-_, _*_, _<_, _≤_}
 use native.Mathlib.Omega.{arith}
 use native.Mathlib.Nat.{mul-le-mul-right}
 use lib.ListN.{length, getD}
 use denote.Ref.{now}
-use Rattle.std.proofs.shelf.Tests.{cases-lt, cases-eq}
+use Rattle.std.proofs.shelf.Tests.{cases-eq}
 use Rattle.store.specs.Stores.{spaceOf}
 use Rattle.store.specs.Blocks.{inside}
 use Rattle.trie.specs.declared.cells.Cell.{Cell}
@@ -32,9 +32,6 @@ pub reach : (s : Trie) → 0 < s .space → s .used ≤ length (now (s .cells))
 reach s p = omega (arith, space-for (now (s .values)) (length (now (s .cells))) (s .space) (s .count) (s .measured) p (s .inside), of s .few)
 
 module _ (values : List ℕ) (cells : List Cell) (used count : ℕ) (s : Sound values cells used count) where
-  pub head-within : (c : ℕ) → c < used → at cells c .head < used
-  head-within c h = elim (cases-eq (at cells c .head) 0) [ inl z ↦ omega (arith, z, s .many) | inr ne ↦ s .head-in c h (omega (arith, ne)) ]
-
   -- past the head there is no branch
   pub past-head : (c d : ℕ) → at cells c .head < d → d < used → parentOf cells d ≡ c → ⊥
   past-head c d l h e = omega (arith, l, subst (λ x. d ≤ at cells x .head) e (s .first d (omega arith) h))

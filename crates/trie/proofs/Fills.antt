@@ -13,6 +13,7 @@ use Rattle.std.proofs.shelf.Tests.{and-parts, ltb-true, leb-true}
 use Rattle.std.proofs.shelf.Lists.{getD-set-other, length-set}
 use Rattle.rows.specs.Rows.{fits, usable, valued}
 use Rattle.store.specs.Stores.{spaceOf}
+use Rattle.store.specs.Laws.{space-short}
 use Rattle.trie.specs.declared.cells.Cell.{Cell}
 use Rattle.trie.specs.declared.tries.Trie.{Trie}
 use Rattle.trie.specs.Cells.{at, blank, headed, linked, rowsIn, IsSound}
@@ -35,15 +36,11 @@ width a h =
     let q = and-parts (ltb 0 (length vs)) (leb (length vs) 64) p in
     (ltb-true 0 (length vs) (q .0), leb-true (length vs) 64 (q .1))
 
-measured-short : (b : Bool) (n : ℕ) → cond b (min 65535 n) 0 ≤ 65535
-measured-short true n = omega arith
-measured-short false n = omega arith
-
 -- the places of its cells are numbers of 32 bits
 pub short : (a : Trie) (k : ℕ) → a .count < a .space → k ≤ length (now (a .values)) → a .used + k ≤ 4194241
 short a k h l =
     let w = length (now (a .values)) in
-    let m : a .space ≤ 65535 = omega (arith, a .measured, measured-short (usable (now (a .values))) ((length (now (a .cells)) - 1) / w)) in
+    let m : a .space ≤ 65535 = omega (arith, a .measured, space-short (usable (now (a .values))) ((length (now (a .cells)) - 1) / w)) in
     let p : (a .count + 1) * w ≤ 65535 * w = mul-le-mul-right w (let q : a .count + 1 ≤ 65535 = omega arith in q) in
     omega (arith, p, width a (omega arith) .1, of a .few, add-mul (a .count) 1 w, one-mul w)
 

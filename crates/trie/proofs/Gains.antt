@@ -1,41 +1,26 @@
 -- What a trie means after one row more.
-use mathlib.Core.Path.{_≡_, refl, sym, ap, subst, _∙_}
+use mathlib.Core.Path.{_≡_, refl, sym, ap, _∙_}
 use mathlib.Core.List.{List, [], _∷_, _++_}
-use mathlib.Core.Logic.{_⊎_, inl, inr}
-use Prim.Native.Nat.{ℕ, zero, suc, _+_, _-_, _*_, _<_, _≤_}
+use mathlib.Core.Logic.{inl, inr}
+use Prim.Native.Nat.{ℕ, zero, suc, _+_, _-_, _<_, _≤_}
 use native.Mathlib.Omega.{arith}
 use lib.ListN.{length, getD}
-use Rattle.std.proofs.shelf.Tests.{cases-lt, cases-eq}
+use Rattle.std.proofs.shelf.Tests.{cases-lt}
 use Rattle.std.proofs.shelf.Lists.{ext-getD}
 use Rattle.std.proofs.shelf.Counted.{map-counting-more, length-map-counting, getD-map-counting}
 use Rattle.rows.specs.Rows.{fits-at}
 use Rattle.rows.proofs.Both.{both-length}
 use Rattle.trie.specs.declared.cells.Cell.{Cell}
 use Rattle.trie.specs.Cells.{at, up, parentOf, depthOf, leafOf, rowTo, keptRow, rowsIn, Sound}
-use Rattle.trie.specs.Chains.{upward, deeper}
-use Rattle.trie.specs.Wells.{not-root}
+use Rattle.trie.specs.Wells.{up-add, above}
 use Rattle.trie.specs.Ways.{row-byte, length-rowTo}
 use Rattle.trie.proofs.Grows.{Grown, parent, leaf, note, new-parent0, new-parent}
 
-pub up-add : (cells : List Cell) (m n p c : ℕ) → p ≡ m + n → up cells p c ≡ up cells m (up cells n c)
-up-add cells zero n p c e = ap (λ y. up cells y c) (let q : p ≡ n = omega arith in q)
-up-add cells (suc m) n p c e =
-    let q : p ≡ suc (m + n) = omega arith in
-    ap (λ y. up cells y c) q ∙ ap (λ y. parentOf cells y) (up-add cells m n (m + n) c refl)
-
 module _ (values row : List ℕ) (cs ds : List Cell) (used count c level k : ℕ) (s : Sound values cs used count) (g : Grown values row cs ds used count c level k) where
-  above : (x : ℕ) → x < used → (n : ℕ) → n ≤ depthOf cs x → (up cs n x < used) × (depthOf cs (up cs n x) + n ≡ depthOf cs x)
-  above x h zero l = (h, omega arith)
-  above x h (suc n) l =
-      let o = above x h n (omega arith) in
-      let y = up cs n x in
-      let p : 0 < y = not-root values cs used count s y (omega (arith, o .1)) in
-      (omega (arith, upward cs used (s .next-in) y p (o .0), o .0), omega (arith, deeper cs used (s .next-in) y p (o .0), o .1))
-
   up-same : (x : ℕ) → x < used → (n : ℕ) → n ≤ depthOf cs x → up ds n x ≡ up cs n x
   up-same x h zero l = refl
   up-same x h (suc n) l =
-      ap (λ y. parentOf ds y) (up-same x h n (omega arith)) ∙ parent values row cs ds used count c level k s g (up cs n x) (above x h n (omega arith) .0)
+      ap (λ y. parentOf ds y) (up-same x h n (omega arith)) ∙ parent values row cs ds used count c level k s g (up cs n x) (above values cs used count s x h n (omega arith) .0)
 
   up-new : (n : ℕ) → n < k → up ds n (leafOf ds (used + k) count) + n + 1 ≡ used + k
   up-new zero h = omega (arith, note values row cs ds used count c level k s g)
@@ -59,7 +44,7 @@ module _ (values row : List ℕ) (cs ds : List Cell) (used count c level k : ℕ
         let d : m ≤ depthOf cs c = omega (arith, g .deepest .here) in
         let u : up ds (length values - (v + 1)) (leafOf ds (used + k) count) ≡ up cs m c =
         up-add ds m k (length values - (v + 1)) (leafOf ds (used + k) count) e ∙ ap (up ds m) up-to-c ∙ up-same c (g .deepest .within) m d in
-        ap (λ y. at ds y .byte) u ∙ g .byte (up cs m c) (above c (g .deepest .within) m d .0) ∙ g .deepest .same v l
+        ap (λ y. at ds y .byte) u ∙ g .byte (up cs m c) (above values cs used count s c (g .deepest .within) m d .0) ∙ g .deepest .same v l
     | inr q ↦
         let n = length values - (v + 1) in
         let i = up-new n (omega (arith, g .ends)) in
@@ -84,7 +69,7 @@ module _ (values row : List ℕ) (cs ds : List Cell) (used count c level k : ℕ
       let n = w - (v + 1) in
       let d : n ≤ depthOf cs (leafOf cs used r) = omega (arith, s .kept-deep r h) in
       let i = s .kept-in r h in
-      row-byte w ds (leafOf cs used r) v q ∙ ap (λ y. at ds y .byte) (up-same (leafOf cs used r) i n d) ∙ g .byte (up cs n (leafOf cs used r)) (above (leafOf cs used r) i n d .0) ∙ sym (row-byte w cs (leafOf cs used r) v q))
+      row-byte w ds (leafOf cs used r) v q ∙ ap (λ y. at ds y .byte) (up-same (leafOf cs used r) i n d) ∙ g .byte (up cs n (leafOf cs used r)) (above values cs used count s (leafOf cs used r) i n d .0) ∙ sym (row-byte w cs (leafOf cs used r) v q))
 
   pub grown-rows : rowsIn (length values) ds (used + k) (count + 1) ≡ rowsIn (length values) cs used count ++ row ∷ []
   grown-rows =

@@ -13,10 +13,10 @@ use Rattle.std.proofs.shelf.Lists.{getD-set-same, getD-set-other, length-set}
 use Rattle.rows.specs.Rows.{fits, fits-at}
 use Rattle.rows.proofs.Both.{both-at}
 use Rattle.trie.specs.declared.cells.Cell.{Cell}
-use Rattle.trie.specs.Cells.{at, blank, up, parentOf, depthOf, leafOf, linked, headed, Sound}
-use Rattle.trie.specs.Chains.{upward, deeper, parent-oldest, parent-next, parent-same, depth-same, root-depth, leaf-same, leaf-skip, leaf-last}
+use Rattle.trie.specs.Cells.{at, blank, parentOf, depthOf, leafOf, linked, headed, Sound}
+use Rattle.trie.specs.Chains.{upward, deeper, parent-oldest, parent-next, parent-same, depth-same, leaf-same, leaf-skip, leaf-last}
 use Rattle.trie.specs.Lookups.{Deepest}
-use Rattle.trie.specs.Wells.{is-root}
+use Rattle.trie.specs.Wells.{head-within}
 
 -- what the cells hold after the k cells of a row were written past the used ones and hung below the cell c, which lies in the level `level`
 pub record Grown (values row : List ℕ) (cs ds : List Cell) (used count c level k : ℕ) : Type 0 where
@@ -100,7 +100,7 @@ module _ (values row : List ℕ) (cs ds : List Cell) (used count c level k : ℕ
   w-c = g .deepest .within
 
   head-c : at cs c .head < used
-  head-c = elim (cases-eq (at cs c .head) 0) [ inl z ↦ omega (arith, z, s .many) | inr ne ↦ s .head-in c w-c (omega (arith, ne)) ]
+  head-c = head-within values cs used count s c w-c
 
   -- a cell is old, the first new one, or a later one
   kind : (x : ℕ) → x < used + k → (x < used) ⊎ ((x ≡ used) ⊎ (used < x))

@@ -1,15 +1,15 @@
 -- An empty trie is sound, whatever lies in its cells past the root.
-use mathlib.Core.Path.{_≡_, refl, sym, ap, subst, _∙_}
+use mathlib.Core.Path.{_≡_, refl, ap, _∙_}
 use mathlib.Core.List.{List, [], _∷_}
 use mathlib.Core.Bool.{Bool, true, false, cond}
-use Prim.Native.Nat.{ℕ, zero, suc, _+_, _-_, _*_, _/_, _<_, _≤_, min}
+use Prim.Native.Nat.{ℕ, _/_, _≤_, min}
 use native.Mathlib.Omega.{arith}
 use native.Mathlib.Nat.{zero-div, zero-mul}
-use lib.ListN.{length, getD, set}
+use lib.ListN.{length, set}
 use Rattle.rows.specs.Rows.{usable}
 use Rattle.store.specs.Stores.{spaceOf}
 use Rattle.trie.specs.declared.cells.Cell.{Cell}
-use Rattle.trie.specs.Cells.{at, blank, Sound, IsSound}
+use Rattle.trie.specs.Cells.{at, blank, IsSound}
 
 sound-new : (values : List ℕ) (cells : List Cell) → at cells 0 ≡ blank → IsSound values cells 1 0
 sound-new values cells e no-way = no-way (record {

@@ -1,19 +1,18 @@
 -- Two cells to which the same bytes lead are one.
-use mathlib.Core.Path.{_≡_, refl, sym, ap, subst, _∙_}
-use mathlib.Core.List.{List, [], _∷_}
-use mathlib.Core.Logic.{_⊎_, inl, inr}
-use Prim.Native.Nat.{ℕ, zero, suc, _+_, _-_, _*_, _<_, _≤_}
+use mathlib.Core.Path.{_≡_, sym, ap, subst, _∙_}
+use mathlib.Core.List.{List, []}
+use mathlib.Core.Logic.{inl, inr}
+use Prim.Native.Nat.{ℕ, zero, suc, _+_, _-_, _<_, _≤_}
 use native.Mathlib.Omega.{arith}
 use lib.ListN.{length, getD}
-use Rattle.std.proofs.shelf.Tests.{cases-lt, cases-eq}
+use Rattle.std.proofs.shelf.Tests.{cases-lt}
 use Rattle.std.proofs.shelf.Lists.{ext-getD}
-use Rattle.std.proofs.shelf.Counted.{length-map-counting, getD-map-counting}
 use Rattle.store.specs.Stores.{Distinct, Holds}
 use Rattle.trie.specs.declared.cells.Cell.{Cell}
 use Rattle.trie.specs.Cells.{at, up, parentOf, depthOf, leafOf, rowTo, keptRow, rowsIn, Sound}
 use Rattle.trie.specs.Chains.{upward, deeper}
 use Rattle.trie.specs.Lookups.{Deepest}
-use Rattle.trie.specs.Wells.{up-first, not-root, is-root, on-way}
+use Rattle.trie.specs.Wells.{up-first, up-add, not-root, is-root, on-way}
 use Rattle.trie.specs.Ways.{row-byte, length-rowTo, kept-at, kept-count}
 
 module _ (values : List ℕ) (cells : List Cell) (used count : ℕ) (s : Sound values cells used count) where
@@ -49,13 +48,7 @@ module _ (values : List ℕ) (cells : List Cell) (used count : ℕ) (s : Sound v
       → at cells (up cells (m - (v + 1)) (up cells (length values - m) (leafOf cells used r))) .byte ≡ getD (keptRow (length values) cells used r) v 0
   byte-from r m v h l =
       let e : length values - (v + 1) ≡ (m - (v + 1)) + (length values - m) = omega arith in
-      sym (row-byte (length values) cells (leafOf cells used r) v (omega arith) ∙ ap (λ z. at cells z .byte) (up-add (m - (v + 1)) (length values - m) (length values - (v + 1)) (leafOf cells used r) e))
-    where
-      up-add : (m n p c : ℕ) → p ≡ m + n → up cells p c ≡ up cells m (up cells n c)
-      up-add zero n p c e = ap (λ y. up cells y c) (let q : p ≡ n = omega arith in q)
-      up-add (suc m) n p c e =
-          let q : p ≡ suc (m + n) = omega arith in
-          ap (λ y. up cells y c) q ∙ ap (λ y. parentOf cells y) (up-add m n (m + n) c refl)
+      sym (row-byte (length values) cells (leafOf cells used r) v (omega arith) ∙ ap (λ z. at cells z .byte) (up-add cells (m - (v + 1)) (length values - m) (length values - (v + 1)) (leafOf cells used r) e))
 
   pub distinct : Distinct (rowsIn (length values) cells used count)
   distinct i j l h e =

@@ -1,25 +1,24 @@
 -- The steps of the two lookups.
 use mathlib.Core.Path.{_≡_, refl, sym, ap, subst, _∙_}
-use mathlib.Core.List.{List, [], _∷_}
-use mathlib.Core.Logic.{_⊎_, inl, inr}
-use Prim.Native.Nat.{ℕ, zero, suc, _+_, _-_, _*_, _<_, _≤_}
+use mathlib.Core.List.{List, []}
+use mathlib.Core.Logic.{inl, inr}
+use Prim.Native.Nat.{ℕ, suc, _+_, _-_, _*_, _<_, _≤_}
 use native.Mathlib.Omega.{arith}
 use native.Mathlib.Nat.{add-mul, one-mul}
-use native.Mathlib.Numerals.{add-one}
 use mathlib.Core.Bool.{true}
 use lib.ListN.{length, getD}
-use Rattle.std.proofs.shelf.Tests.{cases-lt, cases-eq}
+use Rattle.std.proofs.shelf.Tests.{cases-eq}
 use Rattle.std.proofs.shelf.Counted.{getD-map-counting, length-map-counting}
 use Rattle.std.specs.declared.option.Option.{Option}
 use Rattle.std.specs.declared.option.Option.the-variants.{Some, None}
-use Rattle.rows.specs.Rows.{Row, covers, covers-at}
-use Rattle.rows.proofs.Both.{both-at, both-from, both-length}
-use Rattle.store.specs.Stores.{CoverAt, CoverFound}
+use Rattle.rows.specs.Rows.{covers, covers-at}
+use Rattle.rows.proofs.Both.{both-at, both-from}
+use Rattle.store.specs.Stores.{CoverFound}
 use Rattle.trie.specs.declared.cells.Cell.{Cell}
 use Rattle.trie.specs.Cells.{at, up, parentOf, depthOf, leafOf, rowTo, keptRow, rowsIn, Sound}
 use Rattle.trie.specs.Chains.{deeper, parent-next, root-depth}
 use Rattle.trie.specs.Lookups.{Led, Looks, Goes, Looked, Gone}
-use Rattle.trie.specs.Wells.{up-first, some-wide, not-root, on-way, from-root}
+use Rattle.trie.specs.Wells.{up-first, head-within, some-wide, not-root, on-way, from-root}
 
 pub falls-deeper : (w level used b : ℕ) → level < w → (w - (level + 1)) * (used + 2) + (used + 1) < (w - level) * (used + 2) + b
 falls-deeper w level used b h =
@@ -58,7 +57,7 @@ module _ (values row : List ℕ) (cells : List Cell) (used count : ℕ) (s : Sou
   pub look-along : (c level : ℕ) → Looks values row cells used count c level → level < length values → Goes values row cells used count (at cells c .head) level
   look-along c level q l =
       let b = at cells c .head in
-      let i : b < used = elim (cases-eq (at cells c .head) 0) [ inl z ↦ omega (arith, z, s .many) | inr ne ↦ s .head-in c (q .within) (omega (arith, ne)) ] in
+      let i : b < used = head-within values cells used count s c (q .within) in
       record {
         wide = q .wide;
         some = q .some;

@@ -1,12 +1,12 @@
 -- What is known of a sound trie.
-use mathlib.Core.Path.{_≡_, refl, sym, ap, subst, _∙_}
-use mathlib.Core.List.{List, [], _∷_}
-use mathlib.Core.Logic.{_⊎_, inl, inr}
-use Prim.Native.Nat.{ℕ, zero, suc, _+_, _-_, _*_, _<_, _≤_}
+use mathlib.Core.Path.{_≡_, refl, ap, _∙_}
+use mathlib.Core.List.{List}
+use mathlib.Core.Logic.{inl, inr}
+use Prim.Native.Nat.{ℕ, zero, suc, _+_, _*_, _<_, _≤_}
 use native.Mathlib.Omega.{arith}
 use native.Mathlib.Nat.{mul-zero}
-use mathlib.Core.Bool.{Bool, true, false}
-use lib.ListN.{length, getD}
+use mathlib.Core.Bool.{Bool, true}
+use lib.ListN.{length}
 use Rattle.std.proofs.shelf.Tests.{cases-lt, cases-eq, cases-bool, both-ways}
 use Rattle.trie.specs.declared.cells.Cell.{Cell}
 use Rattle.trie.specs.Cells.{at, up, parentOf, depthOf, leafOf, Sound, IsSound}
@@ -50,7 +50,16 @@ pub up-first : (cells : List Cell) (n c : ℕ) → up cells (suc n) c ≡ up cel
 up-first cells zero c = refl
 up-first cells (suc n) c = ap (λ x. parentOf cells x) (up-first cells n c)
 
+pub up-add : (cells : List Cell) (m n p c : ℕ) → p ≡ m + n → up cells p c ≡ up cells m (up cells n c)
+up-add cells zero n p c e = ap (λ y. up cells y c) (let q : p ≡ n = omega arith in q)
+up-add cells (suc m) n p c e =
+    let q : p ≡ suc (m + n) = omega arith in
+    ap (λ y. up cells y c) q ∙ ap (λ y. parentOf cells y) (up-add cells m n (m + n) c refl)
+
 module _ (values : List ℕ) (cells : List Cell) (used count : ℕ) (s : Sound values cells used count) where
+  pub head-within : (c : ℕ) → c < used → at cells c .head < used
+  head-within c h = elim (cases-eq (at cells c .head) 0) [ inl z ↦ omega (arith, z, s .many) | inr ne ↦ s .head-in c h (omega (arith, ne)) ]
+
   pub some-wide : 0 < count → 0 < length values
   some-wide h = elim (cases-eq (length values) 0) [
     | inl e ↦ absurd (omega (arith, s .few, s .many, ap (λ x. count * x) e ∙ mul-zero count))
@@ -66,13 +75,20 @@ module _ (values : List ℕ) (cells : List Cell) (used count : ℕ) (s : Sound v
   is-root zero h l = refl
   is-root (suc c) h l = absurd (omega (arith, deeper cells used (s .next-in) (suc c) (omega arith) h))
 
+  -- n steps up from the cell x
+  pub above : (x : ℕ) → x < used → (n : ℕ) → n ≤ depthOf cells x → (up cells n x < used) × (depthOf cells (up cells n x) + n ≡ depthOf cells x)
+  above x h zero l = (h, omega arith)
+  above x h (suc n) l =
+      let o = above x h n (omega arith) in
+      let y = up cells n x in
+      let p : 0 < y = not-root y (omega (arith, o .1)) in
+      (omega (arith, upward cells used (s .next-in) y p (o .0), o .0), omega (arith, deeper cells used (s .next-in) y p (o .0), o .1))
+
+  -- and from the cell in which a kept row ends
   pub on-way : (k : ℕ) → k < count → (n : ℕ) → n ≤ length values → (up cells n (leafOf cells used k) < used) × (depthOf cells (up cells n (leafOf cells used k)) + n ≡ length values)
-  on-way k h zero l = (s .kept-in k h, omega (arith, s .kept-deep k h))
-  on-way k h (suc n) l =
-      let w = on-way k h n (omega arith) in
-      let c = up cells n (leafOf cells used k) in
-      let p : 0 < c = not-root c (omega (arith, w .1)) in
-      (omega (arith, upward cells used (s .next-in) c p (w .0), w .0), omega (arith, deeper cells used (s .next-in) c p (w .0), w .1))
+  on-way k h n l =
+      let o = above (leafOf cells used k) (s .kept-in k h) n (omega (arith, s .kept-deep k h)) in
+      (o .0, o .1 ∙ s .kept-deep k h)
 
   -- every kept row begins at the root
   pub from-root : (k : ℕ) → k < count → up cells (length values) (leafOf cells used k) ≡ 0

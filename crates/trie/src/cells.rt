@@ -5,13 +5,13 @@ ghost use Rattle.trie.specs.Cells.{blank};
 #[derive(Clone, Copy)]
 pub struct Cell {
     // the newest branch, or 0
-    pub head: u32,
+    pub(crate) head: u32,
     // the next older branch of the same cell, or 0
-    pub next: u32,
+    pub(crate) next: u32,
     // of the row that the cell was made for
-    pub rank: u16,
+    pub(crate) rank: u16,
     // of the variable that the branch to this cell fixes
-    pub byte: u8,
+    pub(crate) byte: u8,
 }
 
 impl Cell {

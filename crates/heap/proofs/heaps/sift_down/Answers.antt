@@ -1,6 +1,4 @@
-use mathlib.Core.Path.{sym}
 use native.Mathlib.Omega.{arith}
-use borrow.Author.Needs.{needs}
 use Rattle.std.proofs.shelf.Sorted.{shuffled-refl}
 use Rattle.heap.proofs.HeapRows.{exchanged-shuffles, sinking-start, sinking-step, sinking-done, sinking-end}
 use Rattle.heap.proofs.heaps.sift_down.Needs as need

@@ -1,6 +1,5 @@
 use mathlib.Core.Path.{sym}
 use native.Mathlib.Omega.{arith}
-use borrow.Author.Needs.{needs}
 use Rattle.std.proofs.shelf.Sorted.{shuffled-refl}
 use Rattle.heap.proofs.HeapRows.{exchanged-shuffles, raising-start, raising-step, raising-done}
 use Rattle.heap.proofs.heaps.sift_up.Needs as need

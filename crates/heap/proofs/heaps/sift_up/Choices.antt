@@ -1,5 +1,5 @@
-use Prim.Native.Nat.{ℕ, _+_, _<_, _≤_}
-use lib.ListN.{length, take}
+use Prim.Native.Nat.{_+_, _≤_}
+use lib.ListN.{take}
 use Rattle.std.specs.Slices.{Shuffled}
 use Rattle.heap.specs.Heaps.{Heaped}
 use Rattle.heap.proofs.HeapRows.{Raising}

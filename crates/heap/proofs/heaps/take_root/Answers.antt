@@ -1,4 +1,3 @@
-use native.Mathlib.Omega.{arith}
 use Rattle.queue.proofs.Fronts.{read-out-then}
 use Rattle.heap.proofs.HeapRows.{rooted-from, root-least}
 use Rattle.heap.proofs.heaps.take_root.Needs as need

@@ -1,10 +1,9 @@
-use mathlib.Core.Path.{ap, sym, subst, _∙_}
+use mathlib.Core.Path.{subst, _∙_}
 use mathlib.Core.List.{List, _++_}
 use Prim.Native.Nat.{_-_}
 use native.Mathlib.Omega.{arith}
-use lib.ListN.{length, take}
+use lib.ListN.{length}
 use Rattle.std.specs.Slices.{Shuffled}
-use Rattle.queue.specs.declared.entries.Entry.{Entry}
 use Rattle.queue.specs.Batches.{numbered}
 use Rattle.queue.proofs.Runs.{drained-from, take-min}
 use Rattle.queue.proofs.batches.in_order.Needs as need

@@ -1,6 +1,6 @@
 use mathlib.Core.Path.{_≡_, refl, sym, ap, _∙_}
 use mathlib.Core.Logic.{_≢_}
-use Prim.Native.Nat.{ℕ, _+_, _*_, _≤_, _<_}
+use Prim.Native.Nat.{_+_, _*_, _<_}
 use native.Mathlib.Omega.{arith}
 use borrow.Author.Count.{below-more}
 use denote.Ref.{now}
@@ -9,7 +9,7 @@ use Rattle.std.proofs.shelf.Lists.{length-set, getD-set-other, getD-set-same}
 use Rattle.store.specs.Blocks.{length-rows}
 use Rattle.store.proofs.Searches.{wide}
 use Rattle.store.proofs.Pushes.{still-sound, rows-set}
-use Rattle.store.proofs.Fills.{Filling, place, filled}
+use Rattle.store.proofs.Fills.{place, filled}
 use Rattle.store.proofs.row_store.RowStoreStore.keep.Needs as need
 
 pub holds-requires : need.holds-requires

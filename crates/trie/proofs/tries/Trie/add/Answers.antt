@@ -1,16 +1,16 @@
-use mathlib.Core.Path.{_≡_, refl, sym, ap, _∙_}
+use mathlib.Core.Path.{ap, _∙_}
 use mathlib.Core.Logic.{_≢_}
-use Prim.Native.Nat.{ℕ, _+_, _-_, _*_, _<_, _≤_}
+use Prim.Native.Nat.{_+_, _-_, _<_, _≤_}
 use native.Mathlib.Omega.{arith}
 use borrow.Author.Needs.{needs}
 use borrow.Author.Count.{below-more}
-use lib.ListN.{length, getD}
+use lib.ListN.{length}
 use denote.Ref.{now}
 use Rattle.std.proofs.shelf.Lists.{getD-set-same, getD-set-other, length-set}
 use Rattle.rows.specs.Rows.{fits-at}
 use Rattle.rows.proofs.Both.{both-length}
-use Rattle.trie.specs.Cells.{at, blank}
-use Rattle.trie.proofs.Descents.{of, reach}
+use Rattle.trie.specs.Cells.{blank}
+use Rattle.trie.proofs.Descents.{reach}
 use Rattle.trie.proofs.Fills.{short, space-next, still, hung}
 use Rattle.trie.proofs.tries.Trie.add.Needs as need
 

@@ -1,12 +1,13 @@
-use mathlib.Core.Path.{_≡_, refl, sym, ap, subst, _∙_}
-use mathlib.Core.Logic.{_⊎_, inl, inr}
-use Prim.Native.Nat.{ℕ, _<_, _≤_, _+_}
+use mathlib.Core.Path.{sym, ap, _∙_}
+use mathlib.Core.Logic.{inl, inr}
+use Prim.Native.Nat.{_<_}
 use native.Mathlib.Omega.{arith}
 use denote.Ref.{now}
 use Rattle.std.proofs.shelf.Tests.{cases-lt, cases-eq}
-use Rattle.trie.specs.Cells.{at, parentOf}
+use Rattle.trie.specs.Cells.{at}
 use Rattle.trie.specs.Chains.{parent-next}
-use Rattle.trie.proofs.Descents.{of, reach, head-within, past-head, past-next}
+use Rattle.trie.specs.Wells.{head-within}
+use Rattle.trie.proofs.Descents.{of, reach, past-head, past-next}
 use Rattle.trie.proofs.tries.Trie.branch.Needs as need
 
 pub index-self-c : need.index-self-c

@@ -1,4 +1,4 @@
-use Prim.Native.Nat.{ℕ, _<_, _≤_}
+use Prim.Native.Nat.{ℕ, _<_}
 use mathlib.Core.Path.{_≡_}
 use denote.Ref.{now}
 use Rattle.trie.specs.Cells.{at, parentOf}

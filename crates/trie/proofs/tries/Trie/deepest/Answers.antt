@@ -1,8 +1,5 @@
-use mathlib.Core.Path.{_≡_, refl, sym, ap, subst, _∙_}
-use Prim.Native.Nat.{ℕ, _<_, _≤_, _+_}
 use native.Mathlib.Omega.{arith}
 use denote.Ref.{now}
-use Rattle.trie.specs.Cells.{at}
 use Rattle.trie.specs.Chains.{root-depth}
 use Rattle.trie.proofs.Descents.{of, one-deeper}
 use Rattle.trie.proofs.tries.Trie.deepest.Needs as need
