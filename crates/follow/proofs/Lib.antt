@@ -1,0 +1,5 @@
+pub mod Shuffles
+pub mod Parts
+pub mod Places
+pub mod Holdings
+pub mod Follows
