@@ -50,7 +50,7 @@ last-or xs y x n e = elim (cases-lt n (length xs)) [
 abbrev number : {K : Type 0} → Entry K → ℕ
 number e = e .number
 
-has-cons : {X : Type 0} (y : X) (xs : List X) (x : X) → Has (y ∷ xs) x → (y ≡ x) ⊎ Has xs x
+pub has-cons : {X : Type 0} (y : X) (xs : List X) (x : X) → Has (y ∷ xs) x → (y ≡ x) ⊎ Has xs x
 has-cons y xs x (zero, lt, at) = inl (at x)
 has-cons y xs x (suc k, lt, at) = inr (k, omega arith, at)
 
@@ -181,17 +181,17 @@ module _ {K : Type 0} (C : cost.Ghosts K) (task : Task) where
         move = refl;
       } in
       let kept-node : (i : ℕ) (z : Node a p) → i < length (r .nodes) → nth (r .nodes) i ≡ Some z → HeldNode C task t i z = λ i z l q.
-          let d = h .nodes i z q in
-          let li : i < s .stored = omega (arith, h .stored) in
-          record {
-            row = ap (λ b. rowAt (width task) b i) (k .bytes) ∙ row-below (width task) (s .bytes) i (s .stored) row e li within ∙ d .row;
-            noted = d .noted;
-            there = subst (λ b. At b i (d .noted)) (sym (k .records)) (at-other (s .records) (s .stored) i note (d .noted) li (d .there));
-            cost = d .cost;
-            joins = d .joins;
-            parent = d .parent;
-            move = d .move;
-          } in
+      let d = h .nodes i z q in
+      let li : i < s .stored = omega (arith, h .stored) in
+      record {
+        row = ap (λ b. rowAt (width task) b i) (k .bytes) ∙ row-below (width task) (s .bytes) i (s .stored) row e li within ∙ d .row;
+        noted = d .noted;
+        there = subst (λ b. At b i (d .noted)) (sym (k .records)) (at-other (s .records) (s .stored) i note (d .noted) li (d .there));
+        cost = d .cost;
+        joins = d .joins;
+        parent = d .parent;
+        move = d .move;
+      } in
       record {
         stored = k .stored ∙ omega (arith, h .stored, length-append (r .nodes) (y ∷ []));
         nodes = λ i z q. elim (last-or (r .nodes) y z i q) [

@@ -50,7 +50,7 @@ fronted n (x ∷ xs) i = elim (cases-bool (eqb x n)) [
   | inl e ↦ subst (λ z. Shuffled (x ∷ xs) (n ∷ z)) (sym (cond-true (eqb x n) xs (x ∷ without n xs) e)) (subst (λ z. Shuffled (x ∷ xs) (z ∷ xs)) (eqb-true x n e) (shuffled-refl (x ∷ xs)))
   | inr ne ↦ subst (λ z. Shuffled (x ∷ xs) (n ∷ z)) (sym (cond-false (eqb x n) xs (x ∷ without n xs) ne))
       (shuffled-trans (x ∷ xs) (x ∷ n ∷ without n xs) (n ∷ x ∷ without n xs)
-        (shuffled-cons x xs (n ∷ without n xs) (fronted n xs (rest i (eqb-false x n ne)))) (turn x n (without n xs)))
+      (shuffled-cons x xs (n ∷ without n xs) (fronted n xs (rest i (eqb-false x n ne)))) (turn x n (without n xs)))
 ]
   where
     rest : In n (x ∷ xs) → (x ≡ n → ⊥) → In n xs

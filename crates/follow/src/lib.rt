@@ -1,1 +1,1 @@
-pub mod runs;
+pub mod tables;
