@@ -5,3 +5,5 @@ pub mod Holdings
 pub mod Follows
 pub mod Openings
 pub mod Workings
+pub mod Tasks
+pub mod Histories

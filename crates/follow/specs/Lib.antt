@@ -1,1 +1,3 @@
 pub mod Workings
+pub mod Histories
+pub mod Promises
