@@ -7,3 +7,5 @@ pub mod Openings
 pub mod Workings
 pub mod Tasks
 pub mod Histories
+pub mod Chains
+pub mod Promises
