@@ -9,3 +9,4 @@ pub mod Tasks
 pub mod Histories
 pub mod Chains
 pub mod Promises
+pub mod Repeats

@@ -43,14 +43,14 @@ same-most : (b : Bodies) → uniform.most (regression (taskOf b)) ≡ most b
 same-most b = ap (λ z. rowCount (b .values) * z) (move-count b)
 
 module _ {K : Type 0} (C : cost.Ghosts K) (file : List ℕ) (b : Bodies) (reads : reading file ≡ Ok b) where
-  law : Regresses (taskOf b)
+  pub law : Regresses (taskOf b)
   law = regression-lawful (taskOf b) (accepted file b reads)
 
   -- the run that ended, over the task that the file is read as
-  record OverAt (cap n : ℕ) (o : Outcome) (m : Memory K) : Type 0 where
-    run : Run (C .arithmetic) (regression (taskOf b))
-    ends : Ends (C .arithmetic) (regression (taskOf b)) cap n o run
-    held : Held C (taskOf b) m run
+  pub record OverAt (cap n : ℕ) (o : Outcome) (m : Memory K) : Type 0 where
+    pub run : Run (C .arithmetic) (regression (taskOf b))
+    pub ends : Ends (C .arithmetic) (regression (taskOf b)) cap n o run
+    pub held : Held C (taskOf b) m run
 
   finds : {cap n k : ℕ} {m : Memory K} → OverAt cap n (found k) m → Finds C b (m .records) k
   finds {cap} {n} {k} {m} o =
@@ -85,13 +85,13 @@ module _ {K : Type 0} (C : cost.Ghosts K) (file : List ℕ) (b : Bodies) (reads 
     pub how : q ≡ o
     pub alike : uniform.Alike s t
 
-  both : {c d n m : ℕ} {o q : Outcome} {x y : Memory K} → c ≤ d → (v : OverAt c n o x) (w : OverAt d m q y) → (o ≡ out-of-space → ⊥) → Both n m o q (v .run) (w .run)
+  pub both : {c d n m : ℕ} {o q : Outcome} {x y : Memory K} → c ≤ d → (v : OverAt c n o x) (w : OverAt d m q y) → (o ≡ out-of-space → ⊥) → Both n m o q (v .run) (w .run)
   both {c} {d} {n} {m} {o} {q} le v w space =
       let r = go-alike (C .arithmetic) (regression (taskOf b)) (law .lawful) c d le .at-end n m o q (v .run) (w .run) (v .ends) (w .ends) space in
       record { steps = r .0; how = r .1; alike = r .2 }
 
 module _ {K S Q : Type 0} (C : cost.Ghosts K) (st : store.Ghosts S) (qu : queue.Ghosts Q K) (file : List ℕ) (b : Bodies) (reads : reading file ≡ Ok b) (s : Tables K S Q) where
-  over-at : {cap n : ℕ} {o : Outcome} {m : Memory K} → Over C st qu file s cap n o m → OverAt C file b reads cap n o m
+  pub over-at : {cap n : ℕ} {o : Outcome} {m : Memory K} → Over C st qu file s cap n o m → OverAt C file b reads cap n o m
   over-at {cap} {n} {o} {m} v = go (v .bodies) (read-one file (v .bodies) b (v .reads) reads) (v .run) (v .ends) (v .held)
     where
       go : (d : Bodies) → d ≡ b → (r : Run (C .arithmetic) (regression (taskOf d))) → Ends (C .arithmetic) (regression (taskOf d)) cap n o r → Held C (taskOf d) m r → OverAt C file b reads cap n o m
