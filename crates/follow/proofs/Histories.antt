@@ -54,10 +54,11 @@ module _ {K S Q : Type 0} (C : cost.Ghosts K) (st : store.Ghosts S) (qu : queue.
     pub run : Run (C .arithmetic) (regression (taskOf bodies))
     pub ends : runs.Ends (C .arithmetic) (regression (taskOf bodies)) cap n o run
     pub held : Held C (taskOf bodies) m run
+    pub ample : Ample C (taskOf bodies) cap m
 
   abbrev pub State : ℕ → Tables K S Q → Worked → Type 0
   State n t (worked.Searching j) = Live n t j
-  State n t (worked.Found f) = Over (f .capacity) n (found (f .node)) (memory st qu t (f .stored) (f .cover))
+  State n t (worked.Found f) = Over (f .capacity) n (found (f .node)) (memory st qu t (f .stored) (f .cover)) × ((d : Bodies) × Suits file (f .variables) (f .moves) d)
   State n t (worked.NoPlan x) = Over (x .capacity) n no-plan (memory st qu t (x .stored) (x .cover))
   State n t (worked.OutOfSpace x) = Over (x .capacity) n out-of-space (memory st qu t (x .stored) (x .cover))
 
@@ -98,6 +99,7 @@ module _ {K S Q : Type 0} (C : cost.Ghosts K) (st : store.Ghosts S) (qu : queue.
         run = r .0;
         ends = subst (λ z. runs.Ends (C .arithmetic) (regression task) z (n + i) o (r .0)) (sym e) (r .1);
         held = r .2;
+        ample = subst (λ z. Ample C task z m) (sym e) (r .3);
       }
 
   went-state : (n b i : ℕ) (t u : Tables K S Q) (j : Searching) (w : Worked) (l : Live n t j) → Went C st qu (taskOf (l .bodies)) j b t u w i → State (n + i) u w
@@ -116,7 +118,10 @@ module _ {K S Q : Type 0} (C : cost.Ghosts K) (st : store.Ghosts S) (qu : queue.
         run = f .0;
         follows = subst (λ z. Follows C task z (n + i) (standing st qu u k) (f .0)) (sym (same .capacity)) (f .1);
       }
-  went-state n b i t u j (worked.Found f) l h = over l (f .capacity) (found (f .node)) (memory st qu u (f .stored) (f .cover)) (h .1) (h .4 (l .ordered) .1)
+  went-state n b i t u j (worked.Found f) l h = (
+    over l (f .capacity) (found (f .node)) (memory st qu u (f .stored) (f .cover)) (h .1) (h .4 (l .ordered) .1),
+    (l .bodies, record { reads = l .reads; variables = l .variables ∙ sym (h .2); moves = l .moves ∙ sym (h .3) }),
+  )
   went-state n b i t u j (worked.NoPlan x) l h = over l (x .capacity) no-plan (memory st qu u (x .stored) (x .cover)) (h .1) (h .2 (l .ordered) .1)
   went-state n b i t u j (worked.OutOfSpace x) l h = over l (x .capacity) out-of-space (memory st qu u (x .stored) (x .cover)) (h .1) (h .2 (l .ordered) .1)
 

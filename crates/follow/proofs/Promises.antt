@@ -24,16 +24,19 @@ use Rattle.uniform.proofs.Endings.{ends-by}
 use Rattle.uniform.proofs.Alikes.{go-alike}
 use Rattle.steps.specs.declared.tables.Tables.{Tables}
 use Rattle.steps.specs.Memories.{Memory, memory}
-use Rattle.steps.specs.Holdings.{Held}
+use Rattle.steps.specs.Holdings.{Held, Ample}
 use Rattle.search.specs.declared.jobs.Searching.{Searching}
 use Rattle.search.specs.declared.jobs.Found.{Found}
 use Rattle.search.specs.declared.jobs.NoPlan.{NoPlan}
 use Rattle.search.specs.declared.jobs.OutOfSpace.{OutOfSpace}
 use Rattle.search.specs.declared.jobs.Worked.{Worked}
 use Rattle.search.specs.declared.jobs.Worked.the-variants as worked
+use Rattle.search.specs.declared.jobs.Work.the-variants as work
+use Rattle.search.specs.Files.{Suits}
 use Rattle.search.specs.Opens.{capacity}
-use Rattle.follow.specs.Histories.{History, ended, capacityOf, Chain}
-use Rattle.follow.specs.Promises.{most, Finds, NeverRefused, FoundIsCheapest, NoPlanIsNone, SpaceSuffices, EndsBy, JobsEnd, SameFound, Repeats, Repeatable}
+use Rattle.search.specs.Works.{Works}
+use Rattle.follow.specs.Histories.{History, went, capacityOf, Chain}
+use Rattle.follow.specs.Promises.{most, Finds, AsDefined, StepsAsDefined, NeverRefused, FoundIsCheapest, NoPlanIsNone, SpaceSuffices, EndsBy, JobsEnd, SameFound, Repeats, Repeatable}
 use Rattle.follow.proofs.Tasks.{accepted, move-count, read-one}
 use Rattle.follow.proofs.Chains.{chain-unique, chain-of}
 use Rattle.follow.proofs.Histories.{Live, Over, State, state, never-refused}
@@ -51,6 +54,7 @@ module _ {K : Type 0} (C : cost.Ghosts K) (file : List ℕ) (b : Bodies) (reads 
     pub run : Run (C .arithmetic) (regression (taskOf b))
     pub ends : Ends (C .arithmetic) (regression (taskOf b)) cap n o run
     pub held : Held C (taskOf b) m run
+    pub ample : Ample C (taskOf b) cap m
 
   finds : {cap n k : ℕ} {m : Memory K} → OverAt cap n (found k) m → Finds C b (m .records) k
   finds {cap} {n} {k} {m} o =
@@ -92,14 +96,14 @@ module _ {K : Type 0} (C : cost.Ghosts K) (file : List ℕ) (b : Bodies) (reads 
 
 module _ {K S Q : Type 0} (C : cost.Ghosts K) (st : store.Ghosts S) (qu : queue.Ghosts Q K) (file : List ℕ) (b : Bodies) (reads : reading file ≡ Ok b) (s : Tables K S Q) where
   pub over-at : {cap n : ℕ} {o : Outcome} {m : Memory K} → Over C st qu file s cap n o m → OverAt C file b reads cap n o m
-  over-at {cap} {n} {o} {m} v = go (v .bodies) (read-one file (v .bodies) b (v .reads) reads) (v .run) (v .ends) (v .held)
+  over-at {cap} {n} {o} {m} v = go (v .bodies) (read-one file (v .bodies) b (v .reads) reads) (v .run) (v .ends) (v .held) (v .ample)
     where
-      go : (d : Bodies) → d ≡ b → (r : Run (C .arithmetic) (regression (taskOf d))) → Ends (C .arithmetic) (regression (taskOf d)) cap n o r → Held C (taskOf d) m r → OverAt C file b reads cap n o m
-      go d e = subst (λ z. (r : Run (C .arithmetic) (regression (taskOf z))) → Ends (C .arithmetic) (regression (taskOf z)) cap n o r → Held C (taskOf z) m r → OverAt C file b reads cap n o m) (sym e) (λ r f h. record { run = r; ends = f; held = h })
+      go : (d : Bodies) → d ≡ b → (r : Run (C .arithmetic) (regression (taskOf d))) → Ends (C .arithmetic) (regression (taskOf d)) cap n o r → Held C (taskOf d) m r → Ample C (taskOf d) cap m → OverAt C file b reads cap n o m
+      go d e = subst (λ z. (r : Run (C .arithmetic) (regression (taskOf z))) → Ends (C .arithmetic) (regression (taskOf z)) cap n o r → Held C (taskOf z) m r → Ample C (taskOf z) cap m → OverAt C file b reads cap n o m) (sym e) (λ r f h a. record { run = r; ends = f; held = h; ample = a })
 
   capacity-of : (n : ℕ) (t : Tables K S Q) (w : Worked) → State C st qu file s n t w → capacityOf w ≡ capacity (taskOf b) (memory st qu s 0 None)
   capacity-of n t (worked.Searching j) l = l .capacity ∙ ap (λ z. capacity (taskOf z) (memory st qu s 0 None)) (read-one file (l .bodies) b (l .reads) reads)
-  capacity-of n t (worked.Found f) l = l .capacity ∙ ap (λ z. capacity (taskOf z) (memory st qu s 0 None)) (read-one file (l .bodies) b (l .reads) reads)
+  capacity-of n t (worked.Found f) l = l .0 .capacity ∙ ap (λ z. capacity (taskOf z) (memory st qu s 0 None)) (read-one file (l .0 .bodies) b (l .0 .reads) reads)
   capacity-of n t (worked.NoPlan x) l = l .capacity ∙ ap (λ z. capacity (taskOf z) (memory st qu s 0 None)) (read-one file (l .bodies) b (l .reads) reads)
   capacity-of n t (worked.OutOfSpace x) l = l .capacity ∙ ap (λ z. capacity (taskOf z) (memory st qu s 0 None)) (read-one file (l .bodies) b (l .reads) reads)
 
@@ -114,16 +118,36 @@ module _ {K S Q : Type 0} (C : cost.Ghosts K) (st : store.Ghosts S) (qu : queue.
 
   at-end : (n : ℕ) (t : Tables K S Q) (w : Worked) → State C st qu file s n t w → (n ≤ 2 + most b) × (n ≤ capacityOf w + 1)
   at-end n t (worked.Searching j) l = let z = still n t j l in let x = z .0 in let y = z .1 in (omega arith, omega arith)
-  at-end n t (worked.Found f) l = last C file b reads (over-at l)
+  at-end n t (worked.Found f) l = last C file b reads (over-at (l .0))
   at-end n t (worked.NoPlan x) l = last C file b reads (over-at l)
   at-end n t (worked.OutOfSpace x) l = last C file b reads (over-at l)
 
+  live-at : (n : ℕ) (t : Tables K S Q) (j : Searching) → Live C st qu file s n t j → AsDefined C st qu file b n t (worked.Searching j)
+  live-at n t j l = subst (λ z. AsDefined C st qu file z n t (worked.Searching j)) (read-one file (l .bodies) b (l .reads) reads) (l .run, l .follows .after, l .follows .held, l .follows .ample)
+
+  defined : (n : ℕ) (t : Tables K S Q) (w : Worked) → State C st qu file s n t w → AsDefined C st qu file b n t w
+  defined n t (worked.Searching j) l = live-at n t j l
+  defined n t (worked.Found f) l = let v = over-at (l .0) in (v .run, v .ends, v .held, v .ample, subst (λ z. Suits file (f .variables) (f .moves) z) (read-one file (l .1 .0) b (l .1 .1 .reads) reads) (l .1 .1))
+  defined n t (worked.NoPlan x) l = let v = over-at l in (v .run, v .ends, v .held, v .ample)
+  defined n t (worked.OutOfSpace x) l = let v = over-at l in (v .run, v .ends, v .held, v .ample)
+
+  surely : (t u : Tables K S Q) (n budget i : ℕ) (j k : Searching) → History C st qu file s n t (worked.Searching j) → j .capacity + 1 ≤ n + budget → Works C st qu file j budget t u (work.Went (worked.Searching k) i) → ⊥
+  surely t u n budget i j k h le w =
+      let z = still (n + i) u k (state C st qu file s (went n budget i t u j (worked.Searching k) h w)) in
+      let lt = z .1 in
+      let ib : i ≡ budget = w .1 .2 .0 in
+      let same : k .capacity ≡ j .capacity = w .1 .2 .1 .capacity in
+      omega arith
+
 module _ {K S Q : Type 0} (C : cost.Ghosts K) (st : store.Ghosts S) (qu : queue.Ghosts Q K) where
+  pub jobs-defined : StepsAsDefined C st qu
+  jobs-defined file b s t n w reads h = defined C st qu file b reads s n t w (state C st qu file s h)
+
   pub jobs-never-refused : NeverRefused C st qu
   jobs-never-refused file s t u n budget i j k h w = never-refused C st qu file s n budget i t u j k (state C st qu file s h) w
 
   pub jobs-cheapest : FoundIsCheapest C st qu
-  jobs-cheapest file b s t n f reads h = finds C file b reads (over-at C st qu file b reads s (state C st qu file s h))
+  jobs-cheapest file b s t n f reads h = finds C file b reads (over-at C st qu file b reads s (state C st qu file s h .0))
 
   pub jobs-complete : NoPlanIsNone C st qu
   jobs-complete file b s t n x ms reads h pl = none-missed C file b reads (over-at C st qu file b reads s (state C st qu file s h)) ms pl
@@ -136,4 +160,5 @@ module _ {K S Q : Type 0} (C : cost.Ghosts K) (st : store.Ghosts S) (qu : queue.
     capacity = λ s t n w h. capacity-of C st qu file b reads s n t w (state C st qu file s h);
     still = λ s t n j h. still C st qu file b reads s n t j (state C st qu file s h);
     at-end = λ s t n w h. at-end C st qu file b reads s n t w (state C st qu file s h);
+    surely = λ s t u n budget i j k h le w. surely C st qu file b reads s t u n budget i j k h le w;
   }

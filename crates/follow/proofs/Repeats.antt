@@ -61,8 +61,8 @@ module _ {K S Q R P : Type 0} (C : cost.Ghosts K) (st : store.Ghosts S) (qu : qu
       → SameFound b (t .records .now) (t′ .records .now) n m f w
   same-found s t s′ t′ n m f (worked.Searching j) h k e le = absurd (both-ways false refl e)
   same-found s t s′ t′ n m f (worked.Found g) h k e le =
-      let v = over-at C st qu file b reads s h in
-      let w = over-at C st′ qu′ file b reads s′ k in
+      let v = over-at C st qu file b reads s (h .0) in
+      let w = over-at C st′ qu′ file b reads s′ (k .0) in
       let r = both C file b reads le v w (λ q. other (found (f .node)) out-of-space q (λ z. omega arith)) in
       record {
         job = g;
@@ -73,17 +73,17 @@ module _ {K S Q R P : Type 0} (C : cost.Ghosts K) (st : store.Ghosts S) (qu : qu
         moves = same-moves C file b reads v w r;
       }
   same-found s t s′ t′ n m f (worked.NoPlan x) h k e le =
-      let r = both C file b reads le (over-at C st qu file b reads s h) (over-at C st′ qu′ file b reads s′ k) (λ q. other (found (f .node)) out-of-space q (λ z. omega arith)) in
+      let r = both C file b reads le (over-at C st qu file b reads s (h .0)) (over-at C st′ qu′ file b reads s′ k) (λ q. other (found (f .node)) out-of-space q (λ z. omega arith)) in
       other no-plan (found (f .node)) (r .how) (λ z. omega arith)
   same-found s t s′ t′ n m f (worked.OutOfSpace x) h k e le =
-      let r = both C file b reads le (over-at C st qu file b reads s h) (over-at C st′ qu′ file b reads s′ k) (λ q. other (found (f .node)) out-of-space q (λ z. omega arith)) in
+      let r = both C file b reads le (over-at C st qu file b reads s (h .0)) (over-at C st′ qu′ file b reads s′ k) (λ q. other (found (f .node)) out-of-space q (λ z. omega arith)) in
       other out-of-space (found (f .node)) (r .how) (λ z. omega arith)
 
   same-none : (s t : Tables K S Q) (s′ t′ : Tables K R P) (n m : ℕ) (x : NoPlan) (w : Worked) → State C st qu file s n t (worked.NoPlan x) → State C st′ qu′ file s′ m t′ w → ended w ≡ true → x .capacity ≤ capacityOf w
       → ((y : NoPlan) × (w ≡ worked.NoPlan y)) × (m ≡ n)
   same-none s t s′ t′ n m x (worked.Searching j) h k e le = absurd (both-ways false refl e)
   same-none s t s′ t′ n m x (worked.Found g) h k e le =
-      let r = both C file b reads le (over-at C st qu file b reads s h) (over-at C st′ qu′ file b reads s′ k) (λ q. other no-plan out-of-space q (λ z. omega arith)) in
+      let r = both C file b reads le (over-at C st qu file b reads s h) (over-at C st′ qu′ file b reads s′ (k .0)) (λ q. other no-plan out-of-space q (λ z. omega arith)) in
       other (found (g .node)) no-plan (r .how) (λ z. omega arith)
   same-none s t s′ t′ n m x (worked.NoPlan y) h k e le =
       let r = both C file b reads le (over-at C st qu file b reads s h) (over-at C st′ qu′ file b reads s′ k) (λ q. other no-plan out-of-space q (λ z. omega arith)) in

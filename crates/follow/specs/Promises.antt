@@ -11,10 +11,13 @@ use Rattle.cost.specs.declared.costs.Cost as cost
 use Rattle.store.specs.declared.stores.Store as store
 use Rattle.queue.specs.declared.queues.Queue as queue
 use Rattle.planning.specs.Plans.{Plan, planCost, Cheapest}
-use Rattle.planning.specs.Regressions.{rowCount}
+use Rattle.planning.specs.Regressions.{regression, rowCount}
+use Rattle.uniform.specs.Runs.{Run}
+use Rattle.uniform.specs.Steps.{found, no-plan, out-of-space, After, Ends}
 use Rattle.steps.specs.declared.tables.Record.{Record}
 use Rattle.steps.specs.declared.tables.Tables.{Tables}
 use Rattle.steps.specs.Memories.{At, memory}
+use Rattle.steps.specs.Holdings.{Held, Ample}
 use Rattle.search.specs.declared.jobs.Searching.{Searching}
 use Rattle.search.specs.declared.jobs.Found.{Found}
 use Rattle.search.specs.declared.jobs.NoPlan.{NoPlan}
@@ -22,6 +25,7 @@ use Rattle.search.specs.declared.jobs.OutOfSpace.{OutOfSpace}
 use Rattle.search.specs.declared.jobs.Worked.{Worked}
 use Rattle.search.specs.declared.jobs.Worked.the-variants as worked
 use Rattle.search.specs.declared.jobs.Work.the-variants as work
+use Rattle.search.specs.Files.{Suits}
 use Rattle.search.specs.Opens.{capacity}
 use Rattle.search.specs.Works.{Works}
 use Rattle.follow.specs.Histories.{History, ended, capacityOf, Chain}
@@ -45,6 +49,18 @@ module _ {K S Q : Type 0} (C : cost.Ghosts K) (st : store.Ghosts S) (qu : queue.
   abbrev pub NeverRefused : Type 0
   NeverRefused = (file : List ℕ) (s t u : Tables K S Q) (n budget i : ℕ) (j k : Searching) → History C st qu file s n t (worked.Searching j) → Works C st qu file j budget t u (work.Torn k i) → ⊥
 
+  -- the run of the definitions that a job's tables hold, with space for as many nodes as its capacity says: it goes on after as
+  -- many steps, or ended in that step in the same way. The file still has as many variables and moves as a found job notes
+  abbrev pub AsDefined : List ℕ → Bodies → ℕ → Tables K S Q → Worked → Type 0
+  AsDefined file b n t (worked.Searching j) = (r : Run (C .arithmetic) (regression (taskOf b))) × After (C .arithmetic) (regression (taskOf b)) (j .capacity) n r × Held C (taskOf b) (memory st qu t (j .stored) (j .cover)) r × Ample C (taskOf b) (j .capacity) (memory st qu t (j .stored) (j .cover))
+  AsDefined file b n t (worked.Found f) = (r : Run (C .arithmetic) (regression (taskOf b))) × Ends (C .arithmetic) (regression (taskOf b)) (f .capacity) n (found (f .node)) r × Held C (taskOf b) (memory st qu t (f .stored) (f .cover)) r × Ample C (taskOf b) (f .capacity) (memory st qu t (f .stored) (f .cover)) × Suits file (f .variables) (f .moves) b
+  AsDefined file b n t (worked.NoPlan x) = (r : Run (C .arithmetic) (regression (taskOf b))) × Ends (C .arithmetic) (regression (taskOf b)) (x .capacity) n no-plan r × Held C (taskOf b) (memory st qu t (x .stored) (x .cover)) r × Ample C (taskOf b) (x .capacity) (memory st qu t (x .stored) (x .cover))
+  AsDefined file b n t (worked.OutOfSpace x) = (r : Run (C .arithmetic) (regression (taskOf b))) × Ends (C .arithmetic) (regression (taskOf b)) (x .capacity) n out-of-space r × Held C (taskOf b) (memory st qu t (x .stored) (x .cover)) r × Ample C (taskOf b) (x .capacity) (memory st qu t (x .stored) (x .cover))
+
+  -- a job's steps and its ending are those of the definitions
+  abbrev pub StepsAsDefined : Type 0
+  StepsAsDefined = (file : List ℕ) (b : Bodies) (s t : Tables K S Q) (n : ℕ) (w : Worked) → reading file ≡ Ok b → History C st qu file s n t w → AsDefined file b n t w
+
   -- a job that found a node found a cheapest plan
   abbrev pub FoundIsCheapest : Type 0
   FoundIsCheapest = (file : List ℕ) (b : Bodies) (s t : Tables K S Q) (n : ℕ) (f : Found) → reading file ≡ Ok b → History C st qu file s n t (worked.Found f) → Finds C b (t .records .now) (f .node)
@@ -62,6 +78,9 @@ module _ {K S Q : Type 0} (C : cost.Ghosts K) (st : store.Ghosts S) (qu : queue.
     pub capacity : (s t : Tables K S Q) (n : ℕ) (w : Worked) → History C st qu file s n t w → capacityOf w ≡ capacity (taskOf b) (memory st qu s 0 None)
     pub still : (s t : Tables K S Q) (n : ℕ) (j : Searching) → History C st qu file s n t (worked.Searching j) → (n < 2 + most b) × (n < j .capacity + 1)
     pub at-end : (s t : Tables K S Q) (n : ℕ) (w : Worked) → History C st qu file s n t w → (n ≤ 2 + most b) × (n ≤ capacityOf w + 1)
+    -- so a working with a budget of what is left of these steps ends it
+    pub surely : (s t u : Tables K S Q) (n budget i : ℕ) (j k : Searching) → History C st qu file s n t (worked.Searching j) → j .capacity + 1 ≤ n + budget
+        → Works C st qu file j budget t u (work.Went (worked.Searching k) i) → ⊥
 
   abbrev pub JobsEnd : Type 0
   JobsEnd = (file : List ℕ) (b : Bodies) → reading file ≡ Ok b → EndsBy file b

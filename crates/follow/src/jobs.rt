@@ -2,7 +2,7 @@ ghost use mathlib.Core.Path.{_≡_};
 ghost use Prim.Native.Nat.{_+_, _*_, _-_};
 ghost use lib.Dec.{ltb, leb};
 ghost use Rattle.uniform.specs.Tellings.{tells};
-ghost use Rattle.follow.specs.Promises.{NeverRefused, FoundIsCheapest, NoPlanIsNone, SpaceSuffices, JobsEnd, Repeatable};
+ghost use Rattle.follow.specs.Promises.{StepsAsDefined, NeverRefused, FoundIsCheapest, NoPlanIsNone, SpaceSuffices, JobsEnd, Repeatable};
 use cost::costs::Cost;
 use queue::queues::Queue;
 use store::stores::Store;
@@ -47,15 +47,17 @@ pub fn suffices<K: Cost, S: Store, Q: Queue<K>>(capacity: u16, rows: u64, moves:
     }
 }
 
-// Holds the proof that jobs end.
+// Holds the proof that jobs end, and do the steps of the definitions.
 fn jobs_end<K: Cost, S: Store, Q: Queue<K>>()
-    ensures { λ _. ⌜ JobsEnd K·Cost S·Store Q·Queue ⌝ }
+    ensures ends { λ _. ⌜ JobsEnd K·Cost S·Store Q·Queue ⌝ }
+    ensures defined { λ _. ⌜ StepsAsDefined K·Cost S·Store Q·Queue ⌝ }
 {}
 
-// The budget with which a job of this capacity that has done so many steps surely ends.
+// The budget with which a job of this capacity that has done so many steps surely ends. Its steps and its ending are those of the definitions.
 pub fn steps_left<K: Cost, S: Store, Q: Queue<K>>(capacity: u16, done: u32) -> u32
     ensures { λ r. ⌜ r ≡ capacity + 1 - done ⌝ }
     ensures ends { λ _. ⌜ JobsEnd K·Cost S·Store Q·Queue ⌝ }
+    ensures defined { λ _. ⌜ StepsAsDefined K·Cost S·Store Q·Queue ⌝ }
 {
     jobs_end::<K, S, Q>();
     (capacity as u32 + 1).saturating_sub(done)
