@@ -10,3 +10,4 @@ pub mod Histories
 pub mod Chains
 pub mod Promises
 pub mod Repeats
+pub mod Uses

@@ -29,17 +29,17 @@ use Rattle.follow.proofs.Histories.{State, state}
 use Rattle.follow.proofs.Promises.{law, OverAt, Both, both, over-at}
 
 -- endings of other kinds differ
-abbrev kind : Outcome → ℕ
+abbrev pub kind : Outcome → ℕ
 kind (found n) = 0
 kind no-plan = 1
 kind out-of-space = 2
 kind skipped = 3
 kind expanded = 4
 
-other : {X : Type 0} (o q : Outcome) → o ≡ q → (kind o ≡ kind q → ⊥) → X
+pub other : {X : Type 0} (o q : Outcome) → o ≡ q → (kind o ≡ kind q → ⊥) → X
 other o q e ne = absurd (ne (ap kind e))
 
-found-inj : (n m : ℕ) → found n ≡ found m → n ≡ m
+pub found-inj : (n m : ℕ) → found n ≡ found m → n ≡ m
 found-inj n m e = cc
 
 module _ {K : Type 0} (C : cost.Ghosts K) (file : List ℕ) (b : Bodies) (reads : reading file ≡ Ok b) where

@@ -5,7 +5,7 @@ use mathlib.Core.List.{List}
 use Prim.Native.Nat.{ℕ, _+_, _*_, _<_, _≤_}
 use Rattle.std.specs.declared.option.Option.the-variants.{None}
 use Rattle.std.specs.declared.result.Result.the-variants.{Ok}
-use Rattle.rows.specs.Tasks.{Task}
+use Rattle.rows.specs.Rows.{covers}
 use Rattle.task.specs.Files.{Bodies, moveCount, reading, taskOf}
 use Rattle.cost.specs.declared.costs.Cost as cost
 use Rattle.store.specs.declared.stores.Store as store
@@ -26,7 +26,7 @@ use Rattle.search.specs.declared.jobs.Worked.{Worked}
 use Rattle.search.specs.declared.jobs.Worked.the-variants as worked
 use Rattle.search.specs.declared.jobs.Work.the-variants as work
 use Rattle.search.specs.Files.{Suits}
-use Rattle.search.specs.Opens.{capacity}
+use Rattle.search.specs.Opens.{capacity, New}
 use Rattle.search.specs.Works.{Works}
 use Rattle.follow.specs.Histories.{History, ended, capacityOf, Chain}
 
@@ -84,6 +84,19 @@ module _ {K S Q : Type 0} (C : cost.Ghosts K) (st : store.Ghosts S) (qu : queue.
 
   abbrev pub JobsEnd : Type 0
   JobsEnd = (file : List ℕ) (b : Bodies) → reading file ≡ Ok b → EndsBy file b
+
+-- a job that found the goal's own node in its first step: the goal holds in the start, and the empty plan is noted
+pub record AtOnce (b : Bodies) (n : ℕ) (w : Worked) : Type 0 where
+  pub job : Found
+  pub is : w ≡ worked.Found job
+  pub node : job .node ≡ 0
+  pub steps : n ≡ 1
+  pub easy : covers (b .goal) (b .start) ≡ true
+
+module _ {K S Q : Type 0} (C : cost.Ghosts K) (st : store.Ghosts S) (qu : queue.Ghosts Q K) where
+  -- only such a job leaves its tables new, so that another can be opened on them
+  abbrev pub OthersUse : Type 0
+  OthersUse = (file : List ℕ) (b : Bodies) (s t : Tables K S Q) (n : ℕ) (w : Worked) → reading file ≡ Ok b → History C st qu file s n t w → New (taskOf b) (memory st qu t 0 None) → AtOnce b n w
 
 -- another job found the same: its node is of the same number, the same moves are noted from it, and it took as many steps
 pub record SameFound {K : Type 0} (b : Bodies) (records others : List (Record K)) (n m : ℕ) (f : Found) (w : Worked) : Type 0 where

@@ -2,7 +2,7 @@ ghost use mathlib.Core.Path.{_≡_};
 ghost use Prim.Native.Nat.{_+_, _*_, _-_};
 ghost use lib.Dec.{ltb, leb};
 ghost use Rattle.uniform.specs.Tellings.{tells};
-ghost use Rattle.follow.specs.Promises.{StepsAsDefined, NeverRefused, FoundIsCheapest, NoPlanIsNone, SpaceSuffices, JobsEnd, Repeatable};
+ghost use Rattle.follow.specs.Promises.{StepsAsDefined, NeverRefused, FoundIsCheapest, NoPlanIsNone, SpaceSuffices, JobsEnd, OthersUse, Repeatable};
 use cost::costs::Cost;
 use queue::queues::Queue;
 use store::stores::Store;
@@ -13,14 +13,16 @@ fn jobs_tell<K: Cost, S: Store, Q: Queue<K>>()
     ensures never { λ _. ⌜ NeverRefused K·Cost S·Store Q·Queue ⌝ }
     ensures cheapest { λ _. ⌜ FoundIsCheapest K·Cost S·Store Q·Queue ⌝ }
     ensures complete { λ _. ⌜ NoPlanIsNone K·Cost S·Store Q·Queue ⌝ }
+    ensures uses { λ _. ⌜ OthersUse K·Cost S·Store Q·Queue ⌝ }
 {}
 
-// Whether there is a plan, as far as a job's ending tells. No working of a job is refused torn; what it found is a cheapest plan, and "no plan" means that there is none.
+// Whether there is a plan, as far as a job's ending tells. No working of a job is refused torn; what it found is a cheapest plan, and "no plan" means that there is none; and only a job that found the goal's own node at once leaves its tables new.
 pub fn tells<K: Cost, S: Store, Q: Queue<K>>(ending: Ending) -> Option<bool>
     ensures { λ r. ⌜ r ≡ tells ending ⌝ }
     ensures never { λ _. ⌜ NeverRefused K·Cost S·Store Q·Queue ⌝ }
     ensures cheapest { λ _. ⌜ FoundIsCheapest K·Cost S·Store Q·Queue ⌝ }
     ensures complete { λ _. ⌜ NoPlanIsNone K·Cost S·Store Q·Queue ⌝ }
+    ensures uses { λ _. ⌜ OthersUse K·Cost S·Store Q·Queue ⌝ }
 {
     jobs_tell::<K, S, Q>();
     match ending {
