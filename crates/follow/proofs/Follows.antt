@@ -1,9 +1,9 @@
 -- Where tables hold a run, a step of the tables is a step of the run, and they are not torn.
-use mathlib.Core.Path.{_≡_, refl, sym, _∙_, ap, subst}
-use mathlib.Core.Bool.{true, false}
+use mathlib.Core.Path.{_≡_, sym, _∙_, ap, subst}
+use mathlib.Core.Bool.{true}
 use mathlib.Core.Logic.{inl, inr}
-use mathlib.Core.List.{List, [], _∷_, _++_, map}
-use Prim.Native.Nat.{ℕ, _+_, _*_, _<_, _≤_}
+use mathlib.Core.List.{[], _∷_}
+use Prim.Native.Nat.{ℕ, _<_}
 use native.Mathlib.Omega.{arith}
 use lib.ListN.{length, length-append}
 use Rattle.std.specs.declared.option.Option.{Option}
@@ -21,15 +21,15 @@ use Rattle.planning.proofs.Lists.{nth-some, nth-below, nth-left, in-push}
 use Rattle.planning.proofs.Regressions.{regression-lawful}
 use Rattle.uniform.specs.Runs.{Node, Run, CoverAt, Uncovered, answered, taken, keeping, storing, child}
 use Rattle.uniform.specs.Runs as runs
-use Rattle.uniform.specs.Steps.{Outcome, skipped, expanded, found, no-plan, out-of-space, After}
+use Rattle.uniform.specs.Steps.{Outcome}
 use Rattle.uniform.specs.Steps as run
 use Rattle.uniform.specs.Promises.{Orderly}
 use Rattle.uniform.proofs.Waits.{in-without}
 use Rattle.uniform.proofs.Goods.{runs-orderly}
 use Rattle.steps.specs.Memories.{Memory, width, rowAt}
-use Rattle.steps.specs.Steps.{One, unmoved, covered, stores, Crowded, Upto, none, more, Kept, Taken, Visit, skips, finds, expands, crowds, Step, ends, takes, Whole}
+use Rattle.steps.specs.Steps.{One, unmoved, covered, stores, Crowded, Upto, none, more, Kept, Taken, Visit, skips, finds, expands, crowds, Step, ends, takes}
 use Rattle.steps.specs.Steps as steps
-use Rattle.steps.specs.Holdings.{HeldNode, Held, Ample, StepsAlike, NeverTorn}
+use Rattle.steps.specs.Holdings.{Held, Ample, StepsAlike, NeverTorn}
 use Rattle.follow.proofs.Holdings.{cover-at, uncovered, held-answered, held-taken, held-kept, held-stored, ample-taken, ample-kept, ample-answered, ample-stored, least-is, sound-is, as-many, waits}
 
 module _ {K : Type 0} (C : cost.Ghosts K) (task : Task) (acc : Accepted task) (cap : ℕ) where

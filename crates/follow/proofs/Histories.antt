@@ -1,13 +1,12 @@
 -- What a job's history leaves: tables that hold a run which goes on, or has ended in the same way.
-use mathlib.Core.Path.{_≡_, refl, sym, _∙_, ap, subst}
-use mathlib.Core.Logic.{_⊎_, inl, inr}
-use mathlib.Core.List.{List, [], _∷_}
-use Prim.Native.Nat.{ℕ, _+_, _<_, _≤_}
+use mathlib.Core.Path.{_≡_, sym, _∙_, ap, subst}
+use mathlib.Core.Logic.{inl, inr}
+use mathlib.Core.List.{List}
+use Prim.Native.Nat.{ℕ, _+_, _<_}
 use native.Mathlib.Omega.{arith}
 use lib.ListN.{length}
 use Rattle.std.specs.declared.option.Option.the-variants.{None}
 use Rattle.std.specs.declared.result.Result.the-variants.{Ok}
-use Rattle.rows.specs.Tasks.{Task}
 use Rattle.task.specs.Files.{Bodies, width, moveCount, reading, taskOf}
 use Rattle.cost.specs.declared.costs.Cost as cost
 use Rattle.store.specs.declared.stores.Store as store
@@ -18,7 +17,7 @@ use Rattle.uniform.specs.Steps.{Outcome, found, no-plan, out-of-space, opening}
 use Rattle.uniform.specs.Steps as runs
 use Rattle.steps.specs.declared.tables.Tables.{Tables}
 use Rattle.steps.specs.Memories.{Memory, memory}
-use Rattle.steps.specs.Turns.{Standing, Intact, Goes, Ends}
+use Rattle.steps.specs.Turns.{Ends}
 use Rattle.steps.specs.Holdings.{Held, Ample}
 use Rattle.search.specs.declared.jobs.Searching.{Searching}
 use Rattle.search.specs.declared.jobs.Worked.{Worked}

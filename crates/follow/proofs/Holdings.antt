@@ -1,33 +1,31 @@
 -- Tables that hold a run still hold one after each part of a step.
 use mathlib.Core.Path.{_≡_, refl, sym, _∙_, ap, subst}
-use mathlib.Core.Bool.{true, false, not, _&&_, _||_}
+use mathlib.Core.Bool.{true, false, not, _&&_}
 use mathlib.Core.Logic.{_⊎_, inl, inr}
 use mathlib.Core.List.{List, [], _∷_, _++_, map}
-use Prim.Native.Nat.{ℕ, zero, suc, _+_, _*_, _<_, _≤_}
+use Prim.Native.Nat.{ℕ, zero, suc, _*_, _<_, _≤_}
 use native.Mathlib.Omega.{arith}
 use lib.Dec.{ltb}
 use lib.ListN.{length, length-append, length-set}
 use Rattle.std.specs.Slices.{Shuffled}
 use Rattle.std.specs.shelf.Lists.{Has}
-use Rattle.std.specs.declared.option.Option.the-variants.{Some, None}
+use Rattle.std.specs.declared.option.Option.the-variants.{Some}
 use Rattle.std.proofs.shelf.Sorted.{shuffled-sym, shuffled-trans, has-shuffled, length-shuffled}
-use Rattle.std.proofs.shelf.Elements.{has-append-right, has-push-cases}
+use Rattle.std.proofs.shelf.Elements.{has-append-right}
 use Rattle.std.proofs.shelf.Lists.{length-map}
 use Rattle.std.proofs.shelf.Tests.{or-parts, and-cases, ltb-false, not-from-false, cases-lt, both-ways}
 use Rattle.rows.specs.Rows.{Row, fits, covers}
-use Rattle.rows.specs.Tasks.{Task, nth, Accepted}
+use Rattle.rows.specs.Tasks.{Task, nth}
 use Rattle.cost.specs.declared.costs.Cost as cost
-use Rattle.cost.specs.Costs.{NotAfter}
 use Rattle.store.specs.Stores as store
 use Rattle.queue.specs.declared.entries.Entry.{Entry}
-use Rattle.queue.specs.Orders.{goes, Least, Names}
+use Rattle.queue.specs.Orders.{Least}
 use Rattle.planning.specs.Lists.{In}
 use Rattle.planning.specs.Plans.{price}
 use Rattle.planning.specs.Regressions.{regression}
 use Rattle.planning.proofs.Lists.{nth-some, nth-below, nth-left, nth-push, some-inj}
 use Rattle.uniform.specs.Runs.{Node, Run, CoverAt, Uncovered, answered, taken, keeping, storing, child}
 use Rattle.uniform.specs.Runs as runs
-use Rattle.uniform.specs.Promises.{Orderly}
 use Rattle.steps.specs.declared.tables.Record.{Record}
 use Rattle.steps.specs.Memories.{Memory, At, width, rowAt}
 use Rattle.steps.specs.Steps.{Joined, Stored, Taken, Kept, Sound}

@@ -1,25 +1,25 @@
 -- Opening: new tables in which a job began hold a run as it is opened.
 use mathlib.Core.Path.{_≡_, refl, sym, _∙_, ap, subst}
 use mathlib.Core.Logic.{inl, inr}
-use mathlib.Core.List.{List, [], _∷_, map}
-use Prim.Native.Nat.{ℕ, zero, suc, _+_, _*_, _/_, _<_, _≤_, min}
+use mathlib.Core.List.{[], _∷_, map}
+use Prim.Native.Nat.{ℕ, zero, suc, _+_, _*_, _/_, _≤_, min}
 use native.Mathlib.Omega.{arith}
 use native.Mathlib.Nat.{mul-le-mul-right, div-mul-le-self, min-le-left, min-le-right, zero-mul}
-use lib.ListN.{length, set, length-set}
+use lib.ListN.{length, length-set}
 use Rattle.std.specs.shelf.Lists.{Has}
-use Rattle.std.specs.declared.option.Option.the-variants.{Some, None}
+use Rattle.std.specs.declared.option.Option.the-variants.{Some}
 use Rattle.std.proofs.shelf.Sorted.{shuffled-sym, has-shuffled}
-use Rattle.rows.specs.Tasks.{Task, nth, Accepted}
+use Rattle.rows.specs.Tasks.{Task, nth}
 use Rattle.rows.proofs.Both.{both-length}
 use Rattle.cost.specs.declared.costs.Cost as cost
 use Rattle.queue.specs.declared.entries.Entry.{Entry}
 use Rattle.planning.specs.Regressions.{regression}
 use Rattle.planning.proofs.Lists.{none-some, some-inj}
-use Rattle.uniform.specs.Runs.{Node, root, opened}
+use Rattle.uniform.specs.Runs.{root}
 use Rattle.steps.specs.declared.tables.Record.{Record}
 use Rattle.steps.specs.Memories.{Memory, At, width, rowAt, written}
-use Rattle.steps.specs.Holdings.{HeldNode, Held, Ample}
-use Rattle.search.specs.Opens.{capacity, New, Began}
+use Rattle.steps.specs.Holdings.{HeldNode}
+use Rattle.search.specs.Opens.{capacity}
 use Rattle.follow.specs.Workings.{OpensHold}
 use Rattle.follow.proofs.Shuffles.{shuffled-map}
 use Rattle.follow.proofs.Parts.{row-within, row-stored, written-length}

@@ -1,23 +1,19 @@
 -- What is promised of every job.
 use mathlib.Core.Path.{_≡_, refl, sym, _∙_, ap, subst}
-use mathlib.Core.Bool.{true, false}
 use mathlib.Core.List.{List}
 use Prim.Native.Nat.{ℕ, _+_, _*_, _<_, _≤_}
 use native.Mathlib.Omega.{arith}
-use lib.ListN.{length}
 use Rattle.std.specs.declared.option.Option.the-variants.{None}
 use Rattle.std.specs.declared.result.Result.the-variants.{Ok}
-use Rattle.std.proofs.shelf.Tests.{both-ways}
 use Rattle.task.specs.Files.{Bodies, moveCount, reading, taskOf}
 use Rattle.cost.specs.declared.costs.Cost as cost
 use Rattle.store.specs.declared.stores.Store as store
 use Rattle.queue.specs.declared.queues.Queue as queue
 use Rattle.planning.specs.Plans.{Plan}
-use Rattle.planning.specs.Spaces.{Lawful}
 use Rattle.planning.specs.Regressions.{regression, rowCount, Regresses}
 use Rattle.planning.proofs.Regressions.{regression-lawful, best-cheapest}
 use Rattle.uniform.specs.Runs.{Run}
-use Rattle.uniform.specs.Steps.{Outcome, found, no-plan, out-of-space, After, Ends}
+use Rattle.uniform.specs.Steps.{Outcome, found, no-plan, out-of-space, Ends}
 use Rattle.uniform.specs.Promises as uniform
 use Rattle.uniform.proofs.Goods.{found-cheapest, no-plan-none, few-nodes}
 use Rattle.uniform.proofs.Endings.{ends-by}
@@ -36,7 +32,7 @@ use Rattle.search.specs.Files.{Suits}
 use Rattle.search.specs.Opens.{capacity}
 use Rattle.search.specs.Works.{Works}
 use Rattle.follow.specs.Histories.{History, went, capacityOf, Chain}
-use Rattle.follow.specs.Promises.{most, Finds, AsDefined, StepsAsDefined, NeverRefused, FoundIsCheapest, NoPlanIsNone, SpaceSuffices, EndsBy, JobsEnd, SameFound, Repeats, Repeatable}
+use Rattle.follow.specs.Promises.{most, Finds, AsDefined, StepsAsDefined, NeverRefused, FoundIsCheapest, NoPlanIsNone, SpaceSuffices, JobsEnd}
 use Rattle.follow.proofs.Tasks.{accepted, move-count, read-one}
 use Rattle.follow.proofs.Chains.{chain-unique, chain-of}
 use Rattle.follow.proofs.Histories.{Live, Over, State, state, never-refused}

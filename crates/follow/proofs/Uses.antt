@@ -2,17 +2,16 @@
 use mathlib.Core.Path.{_≡_, refl, sym, _∙_, ap, subst}
 use mathlib.Core.Bool.{true, false}
 use mathlib.Core.Logic.{_⊎_, inl, inr}
-use mathlib.Core.List.{List, [], _∷_, _++_}
-use Prim.Native.Nat.{ℕ, _+_, _<_}
+use mathlib.Core.List.{List, [], _∷_}
+use Prim.Native.Nat.{ℕ, _<_}
 use native.Mathlib.Omega.{arith}
 use lib.ListN.{length, length-append}
 use Rattle.std.specs.declared.option.Option.{Option}
 use Rattle.std.specs.declared.option.Option.the-variants.{None}
-use Rattle.std.specs.declared.result.Result.the-variants.{Ok}
 use Rattle.std.proofs.shelf.Tests.{both-ways}
 use Rattle.rows.specs.Rows.{covers}
 use Rattle.rows.specs.Tasks.{nth}
-use Rattle.task.specs.Files.{Bodies, reading, taskOf}
+use Rattle.task.specs.Files.{Bodies, taskOf}
 use Rattle.cost.specs.Costs.{Arithmetic}
 use Rattle.cost.specs.declared.costs.Cost as cost
 use Rattle.store.specs.declared.stores.Store as store
@@ -22,7 +21,7 @@ use Rattle.planning.specs.Spaces.{Space}
 use Rattle.planning.specs.Regressions.{regression}
 use Rattle.planning.proofs.Lists.{nth-below, some-inj}
 use Rattle.uniform.specs.Runs.{Node, Run, root, opened}
-use Rattle.uniform.specs.Steps.{Outcome, skipped, expanded, found, no-plan, out-of-space, going, One, unmoved, covered, stored, Upto, none, more, Step, ends, skips, finds, expands, crowds, After, opening, onward, Ends}
+use Rattle.uniform.specs.Steps.{Outcome, found, no-plan, out-of-space, going, unmoved, covered, stored, Upto, none, more, Step, ends, skips, finds, expands, crowds, After, opening, onward, Ends}
 use Rattle.steps.specs.declared.tables.Tables.{Tables}
 use Rattle.steps.specs.Memories.{memory}
 use Rattle.steps.specs.Holdings.{Held}

@@ -1,6 +1,5 @@
 -- Steps of tables that hold a run are steps of the run, however many.
-use mathlib.Core.Path.{_≡_, refl, sym, _∙_, ap, subst}
-use mathlib.Core.Bool.{true, false}
+use mathlib.Core.Path.{_≡_, sym, _∙_, ap, subst}
 use Prim.Native.Nat.{ℕ, _+_}
 use native.Mathlib.Omega.{arith}
 use lib.ListN.{length}
@@ -8,11 +7,11 @@ use Rattle.rows.specs.Tasks.{Task, Accepted}
 use Rattle.cost.specs.declared.costs.Cost as cost
 use Rattle.planning.specs.Regressions.{regression}
 use Rattle.uniform.specs.Runs.{Run}
-use Rattle.uniform.specs.Steps.{Outcome, After}
+use Rattle.uniform.specs.Steps.{Outcome}
 use Rattle.uniform.specs.Steps as run
 use Rattle.steps.specs.Memories.{Memory}
 use Rattle.steps.specs.Steps.{Whole}
-use Rattle.steps.specs.Turns.{Standing, Intact, Known, Goes, still, onward, Ends}
+use Rattle.steps.specs.Turns.{Standing, Intact, Goes, still, onward, Ends}
 use Rattle.steps.specs.Holdings.{Held, Ample}
 use Rattle.follow.specs.Workings.{Follows, WorksAlike}
 use Rattle.follow.proofs.Follows.{steps-alike, never-torn}

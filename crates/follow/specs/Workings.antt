@@ -1,5 +1,4 @@
 -- What opening and working make of tables, said of the run that they hold.
-use mathlib.Core.Path.{_≡_}
 use Prim.Native.Nat.{ℕ, _+_, _<_}
 use Rattle.rows.specs.Tasks.{Task, Accepted}
 use Rattle.cost.specs.declared.costs.Cost as cost
