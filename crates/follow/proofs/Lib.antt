@@ -1,0 +1,13 @@
+pub mod Shuffles
+pub mod Parts
+pub mod Places
+pub mod Holdings
+pub mod Follows
+pub mod Openings
+pub mod Workings
+pub mod Tasks
+pub mod Histories
+pub mod Chains
+pub mod Promises
+pub mod Repeats
+pub mod Uses
