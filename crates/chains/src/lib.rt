@@ -5,6 +5,7 @@ ghost use Prim.Native.Nat.{ℕ, _<_, _≤_};
 ghost use lib.Dec.{ltb};
 ghost use lib.ListN.{length, getD, set, drop};
 ghost use Rattle.std.specs.Options.{Cases as BySome};
+ghost use Rattle.std.specs.Orderings.{When};
 ghost use Rattle.steps.specs.declared.tables.Record.{Record};
 ghost use Rattle.chains.specs.Chains.{Link, Chain, Broken, Reading, OneChain, FewMoves, OneReading};
 use rows::refusals::Refusal;
@@ -33,6 +34,13 @@ fn is_link(node: u16, parent: u16, step: u16, moves: u16) -> bool
     parent < node && step < moves
 }
 
+// Whether a chain ends here: node 0's own move is never read.
+fn is_root(node: u16) -> bool
+    ensures { λ r. ⌜ When r (node ≡ 0) (0 < node) ⌝ }
+{
+    node == 0
+}
+
 // The parent of a node, not node 0, if its record can be read.
 fn follow<K>(records: &[Record<K>], node: u16, moves: u16) -> Option<u16>
     requires { ⌜ 0 < node ⌝ }
@@ -55,7 +63,7 @@ fn chain_length<K>(records: &[Record<K>], node: u16, moves: u16) -> Option<usize
 {
     let mut at = node;
     let mut count: usize = 0;
-    while at > 0 {
+    while !is_root(at) {
         match follow(records, at, moves) {
             None => return None,
             Some(parent) => {
@@ -65,6 +73,13 @@ fn chain_length<K>(records: &[Record<K>], node: u16, moves: u16) -> Option<usize
         }
     }
     Some(count)
+}
+
+// Whether the buffer has so many cells.
+fn has_cells(out: &[u16], count: usize) -> bool
+    ensures { λ r. ⌜ When r (count ≤ length (now (out .entry))) (length (now (out .entry)) < count) ⌝ }
+{
+    count <= out.len()
 }
 
 // Writes a move into a cell.
@@ -82,7 +97,7 @@ fn write_chain<K>(records: &[Record<K>], node: u16, out: &mut [u16])
 {
     let mut at = node;
     let mut count: usize = 0;
-    while at > 0 {
+    while !is_root(at) {
         put(out, count, move_at(records, at));
         at = parent_at(records, at);
         count += 1;
@@ -106,7 +121,7 @@ pub fn read_chain<K>(
     match chain_length(records, node, moves) {
         None => Err(Refusal::Torn),
         Some(count) => {
-            if out.len() < count {
+            if !has_cells(out, count) {
                 return Err(Refusal::ShortBuffer);
             }
             write_chain(records, node, out);

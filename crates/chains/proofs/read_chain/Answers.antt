@@ -12,8 +12,8 @@ returns-in-None g c = record {
   same = one-reading (c .args .records .now) (c .args .moves);
 }
 
-pub returns-then-out-count : need.returns-then-out-count
-returns-then-out-count g c =
+pub returns-then-not-has-cells : need.returns-then-not-has-cells
+returns-then-not-has-cells g c =
     let h = c .in-Some .ensures tt in
     record {
       read = (short (h .1) (omega (arith, h .2)), refl);
@@ -25,8 +25,8 @@ returns-then-out-count g c =
 pub write-chain-requires : need.write-chain-requires
 write-chain-requires g c κs = let h = c .in-Some .ensures tt in (c .args .moves, h .0, h .1, omega (arith, h .2))
 
-pub returns-else-out-count : need.returns-else-out-count
-returns-else-out-count g c =
+pub returns-else-not-has-cells : need.returns-else-not-has-cells
+returns-else-not-has-cells g c =
     let h = c .in-Some .ensures tt in
     record {
       read = record { plan = h .0; chain = h .1; counted = h .2; fits = omega (arith, h .2); written = c .write-chain .ensures (c .args .moves) (h .0) (h .1) (omega (arith, h .2)) };
