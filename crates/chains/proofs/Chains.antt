@@ -15,7 +15,7 @@ use Rattle.rows.specs.declared.refusals.Refusal.{Refusal}
 use Rattle.rows.specs.Tasks.{nth}
 use Rattle.planning.proofs.Lists.{some-inj, nth-below, nth-some}
 use Rattle.steps.specs.declared.tables.Record.{Record}
-use Rattle.chains.specs.Chains.{Link, Chain, done, link, Refused, torn, short, Reading}
+use Rattle.chains.specs.Chains.{Link, Chain, done, link, Broken, here, beyond, Refused, torn, short, Reading}
 
 -- what stands at a place is what is read there, at any default
 pub nth-reads : {X : Type 0} (xs : List X) (n : ℕ) (x : X) → nth xs n ≡ Some x → (d : X) → getD xs n d ≡ x
@@ -43,25 +43,6 @@ module _ {K : Type 0} (records : List (Record K)) (moves : ℕ) where
   pub one-chain : (n : ℕ) (ns ms : List ℕ) → Chain records moves n ns → Chain records moves n ms → ns ≡ ms
   one-chain n ns ms c b = chains-same c b refl
 
-  -- a chain that fits is not refused
-  none-refused : {n : ℕ} {out : List ℕ} {e : Refusal} (ns : List ℕ) → Chain records moves n ns → length ns ≤ length out → Refused records moves n out e → ⊥
-  none-refused ns c le (torn b) = b ns c
-  none-refused {n} ns c le (short {ns = ms} k lt) = omega (arith, ap length (one-chain n ns ms c k))
-
-  one-refusal : {n : ℕ} {out : List ℕ} {e f : Refusal} → Refused records moves n out e → Refused records moves n out f → e ≡ f
-  one-refusal (torn b) (torn d) = refl
-  one-refusal (torn b) (short {ns} c lt) = absurd (b ns c)
-  one-refusal (short {ns} c lt) (torn b) = absurd (b ns c)
-  one-refusal (short c lt) (short k gt) = refl
-
-  pub one-reading : (n : ℕ) (out : List ℕ) (r s : Result ℕ Refusal) (after later : List ℕ) → Reading records moves n out r after → Reading records moves n out s later → (r ≡ s) × (after ≡ later)
-  one-reading n out (Ok a) (Ok b) after later x y =
-      let e = one-chain n (x .plan) (y .plan) (x .chain) (y .chain) in
-      (ap Ok (x .counted ∙ ap length e ∙ sym (y .counted)), x .written ∙ ap (λ z. z ++ drop (length z) out) e ∙ sym (y .written))
-  one-reading n out (Ok a) (Err f) after later x y = absurd (none-refused (x .plan) (x .chain) (x .fits) (y .0))
-  one-reading n out (Err e) (Ok b) after later x y = absurd (none-refused (y .plan) (y .chain) (y .fits) (x .0))
-  one-reading n out (Err e) (Err f) after later x y = (ap Err (one-refusal (x .0) (y .0)), x .1 ∙ sym (y .1))
-
   -- how the chain of a node, not node 0, begins
   pub record Begun (n : ℕ) (ns : List ℕ) : Type 0 where
     pub first : Record K
@@ -74,13 +55,36 @@ module _ {K : Type 0} (records : List (Record K)) (moves : ℕ) where
   begun done pos = absurd (omega arith)
   begun (link {n} {x} {ns} l c) pos = record { first = x; rest = ns; linked = l; chain = c; is = refl }
 
+  -- a node has one record, so that its chain goes the same way as the broken one
+  pub never-both : {n : ℕ} {ns : List ℕ} → Broken records moves n → Chain records moves n ns → ⊥
+  never-both (here pos none) c = let b = begun c pos in none (b .first) (b .linked)
+  never-both (beyond {n} {x} l d) c =
+      let b = begun c (l .later) in
+      let e : b .first ≡ x = some-inj (b .first) x (sym (b .linked .stored) ∙ l .stored) in
+      never-both d (subst (λ z. Chain records moves (z .parent) (b .rest)) e (b .chain))
+
+  -- a chain that fits is not refused
+  none-refused : {n : ℕ} {out : List ℕ} {e : Refusal} (ns : List ℕ) → Chain records moves n ns → length ns ≤ length out → Refused records moves n out e → ⊥
+  none-refused ns c le (torn b) = never-both b c
+  none-refused {n} ns c le (short {ns = ms} k lt) = omega (arith, ap length (one-chain n ns ms c k))
+
+  one-refusal : {n : ℕ} {out : List ℕ} {e f : Refusal} → Refused records moves n out e → Refused records moves n out f → e ≡ f
+  one-refusal (torn b) (torn d) = refl
+  one-refusal (torn b) (short {ns} c lt) = absurd (never-both b c)
+  one-refusal (short {ns} c lt) (torn b) = absurd (never-both b c)
+  one-refusal (short c lt) (short k gt) = refl
+
+  pub one-reading : (n : ℕ) (out : List ℕ) (r s : Result ℕ Refusal) (after later : List ℕ) → Reading records moves n out r after → Reading records moves n out s later → (r ≡ s) × (after ≡ later)
+  one-reading n out (Ok a) (Ok b) after later x y =
+      let e = one-chain n (x .plan) (y .plan) (x .chain) (y .chain) in
+      (ap Ok (x .counted ∙ ap length e ∙ sym (y .counted)), x .written ∙ ap (λ z. z ++ drop (length z) out) e ∙ sym (y .written))
+  one-reading n out (Ok a) (Err f) after later x y = absurd (none-refused (x .plan) (x .chain) (x .fits) (y .0))
+  one-reading n out (Err e) (Ok b) after later x y = absurd (none-refused (y .plan) (y .chain) (y .fits) (x .0))
+  one-reading n out (Err e) (Err f) after later x y = (ap Err (one-refusal (x .0) (y .0)), x .1 ∙ sym (y .1))
+
   pub ended : {n : ℕ} {ns : List ℕ} → Chain records moves n ns → n ≡ 0 → ns ≡ []
   ended done e = refl
   ended (link l c) e = absurd (omega (arith, l .later))
-
-  -- a node has one record
-  pub one-link : {n : ℕ} {x y : Record K} → Link records moves n x → Link records moves n y → x ≡ y
-  one-link {n} {x} {y} l k = some-inj x y (sym (l .stored) ∙ k .stored)
 
   -- a record that passes both tests is a link, and one that fails is none
   pub follow-links : (n p m : ℕ) → 0 < n → n < length records → ((d : Record K) → p ≡ getD records n d .parent) → ((d : Record K) → m ≡ getD records n d .step) → (ltb p n && ltb m moves) ≡ true

@@ -7,31 +7,28 @@ use lib.ListN.{length, length-append, getD, set, drop}
 use Rattle.std.proofs.shelf.Lists.{append-nil, append-assoc, length-push, drop-more, set-at}
 use Rattle.planning.proofs.Lists.{nth-below}
 use Rattle.steps.specs.declared.tables.Record.{Record}
-use Rattle.chains.specs.Chains.{Link, Chain, done, link, Broken}
-use Rattle.chains.proofs.Chains.{nth-reads, begun, ended, one-link}
+use Rattle.chains.specs.Chains.{Link, Chain, done, link, Broken, here, beyond}
+use Rattle.chains.proofs.Chains.{nth-reads, begun, ended}
 
 module _ {K : Type 0} (records : List (Record K)) (moves : ℕ) where
   -- so many links lead from the node to where the way has come
   pub record Counted (node at count : ℕ) : Type 0 where
     pub falls : count + at ≤ node
     pub onto : (ns : List ℕ) → Chain records moves at ns → (all : List ℕ) × Chain records moves node all × (length all ≡ count + length ns)
-    pub from : (all : List ℕ) → Chain records moves node all → (ns : List ℕ) × Chain records moves at ns
+    pub back : Broken records moves at → Broken records moves node
 
   pub counted-none : (node : ℕ) → Counted node node 0
-  counted-none node = record { falls = omega arith; onto = λ ns c. (ns, c, omega arith); from = λ all c. (all, c) }
+  counted-none node = record { falls = omega arith; onto = λ ns c. (ns, c, omega arith); back = λ b. b }
 
   pub counted-more : {node at count : ℕ} (x : Record K) → Counted node at count → Link records moves at x → Counted node (x .parent) (count + 1)
   counted-more {node} {at} {count} x w l = record {
     falls = omega (arith, w .falls, l .falls);
     onto = λ ns c. (let h = w .onto (x .step ∷ ns) (link l c) in (h .0, h .1, omega (arith, h .2)));
-    from = λ all c.
-        let h = w .from all c in
-        let b = begun records moves (h .1) (l .later) in
-        (b .rest, subst (λ z. Chain records moves (z .parent) (b .rest)) (one-link records moves (b .linked) l) (b .chain));
+    back = λ b. w .back (beyond l b);
   }
 
   pub counted-broken : {node at count : ℕ} → Counted node at count → 0 < at → ((x : Record K) → Link records moves at x → ⊥) → Broken records moves node
-  counted-broken w pos none = λ all c. (let b = begun records moves (w .from all c .1) pos in none (b .first) (b .linked))
+  counted-broken w pos none = w .back (here pos none)
 
   pub counted-all : {node at count : ℕ} → Counted node at count → at ≡ 0 → (all : List ℕ) × Chain records moves node all × (count ≡ length all)
   counted-all w e = let h = w .onto [] (subst (λ z. Chain records moves z []) (sym e) done) in (h .0, h .1, omega (arith, h .2))

@@ -27,9 +27,11 @@ module _ {K : Type 0} (records : List (Record K)) (moves : ℕ) where
     done : Chain 0 []
     link : {n : ℕ} {x : Record K} {ns : List ℕ} → Link n x → Chain (x .parent) ns → Chain n (x .step ∷ ns)
 
-  -- from node n the parents do not lead to node 0: on the way is a node, not node 0, without a record that can be read
-  abbrev pub Broken : ℕ → Type 0
-  Broken n = (ns : List ℕ) → Chain n ns → ⊥
+  -- on the way from node n along the parents is a node, not node 0, whose record cannot be read: it is not stored, its parent is
+  -- not below it, or its move is not one of the task's
+  pub data Broken : ℕ → Type 0 where
+    here : {n : ℕ} → 0 < n → ((x : Record K) → Link n x → ⊥) → Broken n
+    beyond : {n : ℕ} {x : Record K} → Link n x → Broken (x .parent) → Broken n
 
   -- The chain of node n is read into a buffer: the count of the moves is answered, which are then in the first cells in the order
   -- of doing, the node's own first; later cells keep theirs.
@@ -49,6 +51,10 @@ module _ {K : Type 0} (records : List (Record K)) (moves : ℕ) where
   abbrev pub Reading : ℕ → List ℕ → Result ℕ Refusal → List ℕ → Type 0
   Reading n out (Ok count) after = Read n out count after
   Reading n out (Err e) after = Refused n out e × (after ≡ out)
+
+  -- a broken chain does not lead to node 0
+  abbrev pub NeverBoth : Type 0
+  NeverBoth = (n : ℕ) (ns : List ℕ) → Broken n → Chain n ns → ⊥
 
   -- a node has one chain at most
   abbrev pub OneChain : Type 0

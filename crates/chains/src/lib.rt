@@ -7,7 +7,7 @@ ghost use lib.ListN.{length, getD, set, drop};
 ghost use Rattle.std.specs.Options.{Cases as BySome};
 ghost use Rattle.std.specs.Orderings.{When};
 ghost use Rattle.steps.specs.declared.tables.Record.{Record};
-ghost use Rattle.chains.specs.Chains.{Link, Chain, Broken, Reading, OneChain, FewMoves, OneReading};
+ghost use Rattle.chains.specs.Chains.{Link, Chain, Broken, Reading, NeverBoth, OneChain, FewMoves, OneReading};
 use rows::refusals::Refusal;
 use steps::tables::Record;
 
@@ -114,6 +114,7 @@ pub fn read_chain<K>(
     out: &mut [u16],
 ) -> Result<usize, Refusal>
     ensures read { λ r. ⌜ Reading (now (records .entry)) moves node (now (out .entry)) r (now (out .exit)) ⌝ }
+    ensures apart { λ _. ⌜ NeverBoth (now (records .entry)) moves ⌝ }
     ensures one { λ _. ⌜ OneChain (now (records .entry)) moves ⌝ }
     ensures few { λ _. ⌜ FewMoves (now (records .entry)) moves ⌝ }
     ensures same { λ _. ⌜ OneReading (now (records .entry)) moves ⌝ }
