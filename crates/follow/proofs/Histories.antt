@@ -24,8 +24,9 @@ use Rattle.search.specs.declared.jobs.Worked.{Worked}
 use Rattle.search.specs.declared.jobs.Worked.the-variants as worked
 use Rattle.search.specs.declared.jobs.Work.the-variants as work
 use Rattle.search.specs.Files.{Suits}
-use Rattle.search.specs.Opens.{capacity, Opened}
-use Rattle.search.specs.Works.{standing, Went, TornAfter, Works}
+use Rattle.steps.specs.Begins.{capacity}
+use Rattle.search.specs.Opens.{Opened}
+use Rattle.search.specs.Works.{standing, WorksOn, Works}
 use Rattle.follow.specs.Workings.{Follows}
 use Rattle.follow.specs.Histories.{History, opened, went, idle, torn}
 use Rattle.follow.proofs.Holdings.{as-many}
@@ -61,15 +62,14 @@ module _ {K S Q : Type 0} (C : cost.Ghosts K) (st : store.Ghosts S) (qu : queue.
   State n t (worked.NoPlan x) = Over (x .capacity) n no-plan (memory st qu t (x .stored) (x .cover))
   State n t (worked.OutOfSpace x) = Over (x .capacity) n out-of-space (memory st qu t (x .stored) (x .cover))
 
-  opened-live : (t : Tables K S Q) (j : Searching) → Opened C st qu file s t j → Live 0 t j
-  opened-live t j o =
-      let b = o .bodies in
+  opened-live : (b : Bodies) (t : Tables K S Q) (j : Searching) → reading file ≡ Ok b → Opened C st qu b s t j → Live 0 t j
+  opened-live b t j read o =
       let task = taskOf b in
       let cap = capacity task (memory st qu s 0 None) in
-      let h = opens-hold C task (memory st qu s 0 None) (memory st qu t (j .stored) (j .cover)) (accepted file b (o .reads)) (o .new) (o .some) (o .began) in
+      let h = opens-hold C task (memory st qu s 0 None) (memory st qu t (j .stored) (j .cover)) (accepted file b read) (o .new) (o .some) (o .began) in
       record {
         bodies = b;
-        reads = o .reads;
+        reads = read;
         variables = sym (o .variables);
         moves = sym (o .moves);
         capacity = o .capacity;
@@ -101,7 +101,7 @@ module _ {K S Q : Type 0} (C : cost.Ghosts K) (st : store.Ghosts S) (qu : queue.
         ample = subst (λ z. Ample C task z m) (sym e) (r .3);
       }
 
-  went-state : (n b i : ℕ) (t u : Tables K S Q) (j : Searching) (w : Worked) (l : Live n t j) → Went C st qu (taskOf (l .bodies)) j b t u w i → State (n + i) u w
+  went-state : (n b i : ℕ) (t u : Tables K S Q) (j : Searching) (w : Worked) (l : Live n t j) → WorksOn C st qu (taskOf (l .bodies)) j b t u (work.Went w i) → State (n + i) u w
   went-state n b i t u j (worked.Searching k) l h =
       let task = taskOf (l .bodies) in
       let same = h .1 in
@@ -118,14 +118,14 @@ module _ {K S Q : Type 0} (C : cost.Ghosts K) (st : store.Ghosts S) (qu : queue.
         follows = subst (λ z. Follows C task z (n + i) (standing st qu u k) (f .0)) (sym (same .capacity)) (f .1);
       }
   went-state n b i t u j (worked.Found f) l h = (
-    over l (f .capacity) (found (f .node)) (memory st qu u (f .stored) (f .cover)) (h .1) (h .4 (l .ordered) .1),
-    (l .bodies, record { reads = l .reads; variables = l .variables ∙ sym (h .2); moves = l .moves ∙ sym (h .3) }),
+    over l (f .capacity) (found (f .node)) (memory st qu u (f .stored) (f .cover)) (h .1 .capacity) (h .2 (l .ordered) .1),
+    (l .bodies, record { reads = l .reads; variables = l .variables ∙ sym (h .1 .variables); moves = l .moves ∙ sym (h .1 .moves) }),
   )
   went-state n b i t u j (worked.NoPlan x) l h = over l (x .capacity) no-plan (memory st qu u (x .stored) (x .cover)) (h .1) (h .2 (l .ordered) .1)
   went-state n b i t u j (worked.OutOfSpace x) l h = over l (x .capacity) out-of-space (memory st qu u (x .stored) (x .cover)) (h .1) (h .2 (l .ordered) .1)
 
   -- the tables are not torn, so the working is not refused
-  not-torn : (n b i : ℕ) (t u : Tables K S Q) (j k : Searching) (l : Live n t j) → TornAfter C st qu (taskOf (l .bodies)) j b t u k i → ⊥
+  not-torn : (n b i : ℕ) (t u : Tables K S Q) (j k : Searching) (l : Live n t j) → WorksOn C st qu (taskOf (l .bodies)) j b t u (work.Torn k i) → ⊥
   not-torn n b i t u j k l h =
       let task = taskOf (l .bodies) in
       let acc = accepted file (l .bodies) (l .reads) in
@@ -136,15 +136,15 @@ module _ {K S Q : Type 0} (C : cost.Ghosts K) (st : store.Ghosts S) (qu : queue.
   pub never-refused : (n b i : ℕ) (t u : Tables K S Q) (j k : Searching) → Live n t j → Works C st qu file j b t u (work.Torn k i) → ⊥
   never-refused n b i t u j k l (pos, inl w) = w .0 (l .bodies) (record { reads = l .reads; variables = l .variables; moves = l .moves })
   never-refused n b i t u j k l (pos, inr w) =
-      not-torn n b i t u j k l (again (λ d. TornAfter C st qu (taskOf d) j b t u k i) (l .bodies) (w .0) (l .reads) (w .1 .reads) (w .2))
+      not-torn n b i t u j k l (again (λ d. WorksOn C st qu (taskOf d) j b t u (work.Torn k i)) (l .bodies) (w .0) (l .reads) (w .1 .reads) (w .2))
 
   idle-live : (n : ℕ) (t u : Tables K S Q) (j k : Searching) → Live n t j → k ≡ j → u ≡ t → Live n u k
   idle-live n t u j k l e f = subst (λ z. Live n z k) (sym f) (subst (λ z. Live n t z) (sym e) l)
 
   pub state : {n : ℕ} {t : Tables K S Q} {w : Worked} → History C st qu file s n t w → State n t w
-  state (opened t j o) = opened-live t j o
+  state (opened t j o) = opened-live (o .0) t j (o .1) (o .2)
   state (went n b i t u j w h k) =
       let l : Live n t j = state h in
-      went-state n b i t u j w l (again (λ d. Went C st qu (taskOf d) j b t u w i) (l .bodies) (k .1 .0) (l .reads) (k .1 .1 .reads) (k .1 .2))
+      went-state n b i t u j w l (again (λ d. WorksOn C st qu (taskOf d) j b t u (work.Went w i)) (l .bodies) (k .1 .0) (l .reads) (k .1 .1 .reads) (k .1 .2))
   state (idle n b t u j k h w) = idle-live n t u j k (state h) (w .1) (w .2)
   state (torn n b i t u j k h w) = absurd (never-refused n b i t u j k (state h) w)

@@ -19,7 +19,7 @@ use Rattle.uniform.specs.Runs.{root}
 use Rattle.steps.specs.declared.tables.Record.{Record}
 use Rattle.steps.specs.Memories.{Memory, At, width, rowAt, written}
 use Rattle.steps.specs.Holdings.{HeldNode}
-use Rattle.search.specs.Opens.{capacity}
+use Rattle.steps.specs.Begins.{capacity}
 use Rattle.follow.specs.Workings.{OpensHold}
 use Rattle.follow.proofs.Shuffles.{shuffled-map}
 use Rattle.follow.proofs.Parts.{row-within, row-stored, written-length}
@@ -43,16 +43,18 @@ module _ {K : Type 0} (task : Task) (s : Memory K) where
   least-of =
       let rows = length (s .bytes) / width task in
       let a = min rows (length (s .records)) in
-      let b = min (s .space) (s .room) in
-      let c = min b 65535 in
-      let one : min a c ≤ a = min-le-left a c in
-      let two : min a c ≤ c = min-le-right a c in
+      let b = min a (s .space) in
+      let c = min b (s .room) in
+      let d = min c 65535 in
+      let lc : d ≤ c = min-le-left c 65535 in
+      let lb : c ≤ b = min-le-left b (s .room) in
+      let la : b ≤ a = min-le-left a (s .space) in
       record {
-        bytes = rows-within (min a c) rows (width task) (length (s .bytes)) refl (omega (arith, one, min-le-left rows (length (s .records))));
-        records = omega (arith, one, min-le-right rows (length (s .records)));
-        space = omega (arith, two, min-le-left b 65535, min-le-left (s .space) (s .room));
-        room = omega (arith, two, min-le-left b 65535, min-le-right (s .space) (s .room));
-        short = omega (arith, two, min-le-right b 65535);
+        bytes = rows-within d rows (width task) (length (s .bytes)) refl (omega (arith, lc, lb, la, min-le-left rows (length (s .records))));
+        records = omega (arith, lc, lb, la, min-le-right rows (length (s .records)));
+        space = omega (arith, lc, lb, min-le-right a (s .space));
+        room = omega (arith, lc, min-le-right b (s .room));
+        short = min-le-right c 65535;
       }
 
 -- the one node of an opened run

@@ -29,7 +29,7 @@ use Rattle.search.specs.declared.jobs.Worked.{Worked}
 use Rattle.search.specs.declared.jobs.Worked.the-variants as worked
 use Rattle.search.specs.declared.jobs.Work.the-variants as work
 use Rattle.search.specs.Files.{Suits}
-use Rattle.search.specs.Opens.{capacity}
+use Rattle.steps.specs.Begins.{capacity}
 use Rattle.search.specs.Works.{Works}
 use Rattle.follow.specs.Histories.{History, went, capacityOf, Chain}
 use Rattle.follow.specs.Promises.{most, Finds, AsDefined, StepsAsDefined, NeverRefused, FoundIsCheapest, NoPlanIsNone, SpaceSuffices, JobsEnd}

@@ -27,7 +27,7 @@ use Rattle.steps.specs.Memories.{memory}
 use Rattle.steps.specs.Holdings.{Held}
 use Rattle.search.specs.declared.jobs.Worked.{Worked}
 use Rattle.search.specs.declared.jobs.Worked.the-variants as worked
-use Rattle.search.specs.Opens.{New}
+use Rattle.steps.specs.Begins.{New}
 use Rattle.follow.specs.Promises.{AsDefined, AtOnce, OthersUse}
 use Rattle.follow.proofs.Holdings.{as-many}
 use Rattle.follow.proofs.Promises.{jobs-defined}

@@ -26,7 +26,7 @@ use Rattle.search.specs.declared.jobs.Worked.{Worked}
 use Rattle.search.specs.declared.jobs.Worked.the-variants as worked
 use Rattle.search.specs.declared.jobs.Work.the-variants as work
 use Rattle.search.specs.Files.{Suits}
-use Rattle.search.specs.Opens.{capacity, New}
+use Rattle.steps.specs.Begins.{capacity, New}
 use Rattle.search.specs.Works.{Works}
 use Rattle.follow.specs.Histories.{History, ended, capacityOf, Chain}
 

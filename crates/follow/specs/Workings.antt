@@ -9,7 +9,7 @@ use Rattle.uniform.specs.Steps as run
 use Rattle.steps.specs.Memories.{Memory}
 use Rattle.steps.specs.Turns.{Standing, Intact, Known, Goes, Ends}
 use Rattle.steps.specs.Holdings.{Held, Ample}
-use Rattle.search.specs.Opens.{capacity, New, Began}
+use Rattle.steps.specs.Begins.{capacity, New, Began}
 
 module _ {K : Type 0} (C : cost.Ghosts K) (task : Task) where
   -- tables that were new and in which a job began hold a run as it is opened, with space for as many nodes as their capacity says
