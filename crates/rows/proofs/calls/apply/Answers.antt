@@ -25,9 +25,9 @@ returns-then-out-state c =
     let x = c.args.effect.now in
     let s = c.args.state.now in
     let b = c.if-not-fits-2.ensures in
-    let d = c.if-not-is-complete.ensures in
+    let d = c.if-not-is_complete.ensures in
     too_short (fits values y && (fits values x && complete values s)) (covers y s) (overlaid x s) c.args.out.now (all_fit values y x s c.if-not-fits.ensures b d)
-    (sym c.row-covers.ensures ∙ c.if-not-row-covers.false) (omega (arith, length_overlaid x s (level values x s b d)))
+    (sym c.row_covers.ensures ∙ c.if-not-row_covers.false) (omega (arith, length_overlaid x s (level values x s b d)))
 
 pub returns : goal.returns
 returns c =
@@ -36,7 +36,7 @@ returns c =
     let x = c.args.effect.now in
     let s = c.args.state.now in
     let b = c.if-not-fits-2.ensures in
-    let d = c.if-not-is-complete.ensures in
+    let d = c.if-not-is_complete.ensures in
     wrote (fits values y && (fits values x && complete values s)) (covers y s) (overlaid x s) c.args.out.now (all_fit values y x s c.if-not-fits.ensures b d)
-    (sym c.row-covers.ensures ∙ c.if-not-row-covers.false)
+    (sym c.row_covers.ensures ∙ c.if-not-row_covers.false)
     c.write-overlaid.new.out (omega (arith, length_overlaid x s (level values x s b d))) c.write-overlaid.ensures

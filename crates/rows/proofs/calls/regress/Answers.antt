@@ -35,7 +35,7 @@ returns-then-out-row c =
     let b = c.if-not-fits-2.ensures in
     let d = c.if-not-fits-3.ensures in
     too_short (fits values y && (fits values x && fits values g)) (hits g x && clear g y x) (backed g y x) c.args.out.now (all_fit values y x g a b d)
-    (sym c.is-regressed.ensures ∙ c.if-not-is-regressed.false)
+    (sym c.is_regressed.ensures ∙ c.if-not-is_regressed.false)
     (omega (arith, length_backed g y x (level values y g a d) (level values x g b d)))
 
 pub returns : goal.returns
@@ -48,5 +48,5 @@ returns c =
     let b = c.if-not-fits-2.ensures in
     let d = c.if-not-fits-3.ensures in
     wrote (fits values y && (fits values x && fits values g)) (hits g x && clear g y x) (backed g y x) c.args.out.now (all_fit values y x g a b d)
-    (sym c.is-regressed.ensures ∙ c.if-not-is-regressed.false)
-    c.write-backed.new.out (omega (arith, length_backed g y x (level values y g a d) (level values x g b d))) c.write-backed.ensures
+    (sym c.is_regressed.ensures ∙ c.if-not-is_regressed.false)
+    c.write_backed.new.out (omega (arith, length_backed g y x (level values y g a d) (level values x g b d))) c.write_backed.ensures

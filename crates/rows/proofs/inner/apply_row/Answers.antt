@@ -12,5 +12,5 @@ returns c =
     let s = c.args.state.now in
     let out = c.args.out.now in
     placed_whole (even y x s out) (covers y s) (overlaid x s) out (even_from y x s out (omega arith) (omega arith) (omega arith))
-    (sym c.row-covers.ensures ∙ c.if-not-row-covers.false)
-    c.write-overlaid.new.out (omega (arith, length_overlaid x s (omega arith))) c.write-overlaid.ensures
+    (sym c.row_covers.ensures ∙ c.if-not-row_covers.false)
+    c.write_overlaid.new.out (omega (arith, length_overlaid x s (omega arith))) c.write_overlaid.ensures

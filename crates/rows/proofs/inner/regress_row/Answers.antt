@@ -12,5 +12,5 @@ returns c =
     let g = c.args.row.now in
     let out = c.args.out.now in
     placed_whole (even y x g out) (hits g x && clear g y x) (backed g y x) out (even_from y x g out (omega arith) (omega arith) (omega arith))
-    (sym c.is-regressed.ensures ∙ c.if-not-is-regressed.false)
-    c.write-backed.new.out (omega (arith, length_backed g y x (omega arith) (omega arith))) c.write-backed.ensures
+    (sym c.is_regressed.ensures ∙ c.if-not-is_regressed.false)
+    c.write_backed.new.out (omega (arith, length_backed g y x (omega arith) (omega arith))) c.write_backed.ensures
