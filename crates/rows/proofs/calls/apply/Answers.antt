@@ -12,9 +12,9 @@ all_fit values y x s a b d = and_from (fits values y) _ (sym a) (and_from (fits 
 level : (values x s : List ℕ) → true ≡ fits values x → true ≡ complete values s → length x ≡ length s
 level values x s b d = sym (both_length fits_at values x (sym b)) ∙ both_length complete_at values s (sym d)
 
-pub write-overlaid-requires : goal.write-overlaid-requires
-write-overlaid-requires c = record {
-  effect = level c.args.values.now c.args.effect.now c.args.state.now c.if-not-fits-2.ensures c.if-not-is-complete.ensures;
+pub write_overlaid-requires : goal.write_overlaid-requires
+write_overlaid-requires c = record {
+  effect = level c.args.values.now c.args.effect.now c.args.state.now c.if-not-fits-2.ensures c.if-not-is_complete.ensures;
   room = omega arith;
 }
 
@@ -39,4 +39,4 @@ returns c =
     let d = c.if-not-is_complete.ensures in
     wrote (fits values y && (fits values x && complete values s)) (covers y s) (overlaid x s) c.args.out.now (all_fit values y x s c.if-not-fits.ensures b d)
     (sym c.row_covers.ensures ∙ c.if-not-row_covers.false)
-    c.write-overlaid.new.out (omega (arith, length_overlaid x s (level values x s b d))) c.write-overlaid.ensures
+    c.write_overlaid.new.out (omega (arith, length_overlaid x s (level values x s b d))) c.write_overlaid.ensures

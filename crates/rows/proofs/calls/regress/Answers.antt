@@ -12,14 +12,14 @@ all_fit values y x g a b d = and_from (fits values y) _ (sym a) (and_from (fits 
 level : (values y g : List ℕ) → true ≡ fits values y → true ≡ fits values g → length y ≡ length g
 level values y g a d = sym (both_length fits_at values y (sym a)) ∙ both_length fits_at values g (sym d)
 
-pub is-regressed-requires : goal.is-regressed-requires
-is-regressed-requires c = record {
+pub is_regressed-requires : goal.is_regressed-requires
+is_regressed-requires c = record {
   condition = level c.args.values.now c.args.condition.now c.args.row.now c.if-not-fits.ensures c.if-not-fits-3.ensures;
   effect = level c.args.values.now c.args.effect.now c.args.row.now c.if-not-fits-2.ensures c.if-not-fits-3.ensures;
 }
 
-pub write-backed-requires : goal.write-backed-requires
-write-backed-requires c = record {
+pub write_backed-requires : goal.write_backed-requires
+write_backed-requires c = record {
   condition = level c.args.values.now c.args.condition.now c.args.row.now c.if-not-fits.ensures c.if-not-fits-3.ensures;
   effect = level c.args.values.now c.args.effect.now c.args.row.now c.if-not-fits-2.ensures c.if-not-fits-3.ensures;
   room = omega arith;
