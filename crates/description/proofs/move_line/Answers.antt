@@ -12,9 +12,9 @@ pub returns : goal.returns
 returns c =
     let y = c.args.step.now.condition.now in
     let x = c.args.step.now.effect.now in
-    let name = c.as-str.ensures.value ∙ c.in-ok-known.ensures.ok (printable_text c.args.name.now c.requires.printable) in
-    let rows = c.as-str-2.ensures.value ∙ c.in-ok-rows.ensures in
-    IfOk-weaker c.move-text.result _ _
-    (λ t h. h ∙ same_text c.args.k c.args.step.now.price c.as-str.result.now c.args.name.now c.as-str-2.result.now
+    let name = c.as_str.ensures.value ∙ c.in_ok-known.ensures.ok (printable_text c.args.name.now c.requires.printable) in
+    let rows = c.as_str-2.ensures.value ∙ c.in_ok-rows.ensures in
+    IfOk-weaker c.move_text.result _ _
+    (λ t h. h ∙ same_text c.args.k c.args.step.now.price c.as_str.result.now c.args.name.now c.as_str-2.result.now
     (rows_text (settings 0 y) (settings 0 x) (goal_text (pulled y x c.args.goal.now))) name rows)
-    c.move-text.ensures
+    c.move_text.ensures

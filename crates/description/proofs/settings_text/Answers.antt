@@ -9,8 +9,8 @@ loop-v-preserved c =
     let v = c.loop-v.v in
     let row = c.args.row.now in
     one_more (string_bytes c.loop-v.text) (settings v (drop v row)) (settings 0 row) c.loop-v.invariant
-    (string_bytes c.push-str.new.self) (setting v (get_or row v 0)) (settings (v + 1) (drop (v + 1) row))
-    (c.in-ok-push-str.ensures.bytes ∙ ap (λ t. string_bytes c.loop-v.text ++ t) (c.as-str.ensures.value ∙ c.in-ok-one.ensures))
+    (string_bytes c.push_str.new.self) (setting v (get_or row v 0)) (settings (v + 1) (drop (v + 1) row))
+    (c.in_ok-push_str.ensures.bytes ∙ ap (λ t. string_bytes c.loop-v.text ++ t) (c.as_str.ensures.value ∙ c.in_ok-one.ensures))
     (at_drop_more (settings v) row v 0 (omega arith))
 
 pub returns : goal.returns

@@ -11,9 +11,9 @@ pub returns : goal.returns
 returns c =
     let y = c.args.step.now.condition.now in
     let x = c.args.step.now.effect.now in
-    let needs = c.as-str.ensures.value ∙ c.in-ok-needs.ensures in
-    let sets = c.as-str-2.ensures.value ∙ c.in-ok-sets.ensures in
-    let back = c.as-str-3.ensures.value ∙ c.in-ok-back.ensures in
-    IfOk-weaker c.rows-text.result _ _
-    (λ t h. h ∙ same_text c.as-str.result.now (settings 0 y) c.as-str-2.result.now (settings 0 x) c.as-str-3.result.now (goal_text (pulled y x c.args.goal.now)) needs sets back)
-    c.rows-text.ensures
+    let needs = c.as_str.ensures.value ∙ c.in_ok-needs.ensures in
+    let sets = c.as_str-2.ensures.value ∙ c.in_ok-sets.ensures in
+    let back = c.as_str-3.ensures.value ∙ c.in_ok-back.ensures in
+    IfOk-weaker c.rows_text.result _ _
+    (λ t h. h ∙ same_text c.as_str.result.now (settings 0 y) c.as_str-2.result.now (settings 0 x) c.as_str-3.result.now (goal_text (pulled y x c.args.goal.now)) needs sets back)
+    c.rows_text.ensures

@@ -6,8 +6,8 @@ use Rattle.task.proofs.Readings.{read_parts}
 use Rattle.description.specs.Texts.{answered, described, refused_line, task_text}
 use Rattle.description.proofs.lines.describe.Goals as goal
 
-pub invariant-of-task-text : goal.invariant-of-task-text
-invariant-of-task-text c =
+pub invariant_of-task_text : goal.invariant_of-task_text
+invariant_of-task_text c =
     let j = (read_parts c.args.input.now (held c.in-Ok.task) c.in-Ok.ensures.reading).judged in
     (j.counted, (j.positioned, (j.priced, (j.named, tt))))
 
@@ -16,11 +16,11 @@ returns-in-Err c =
     let input = c.args.input.now in
     let short : described input ≡ refused_line c.in-Err.fault
     = cond-false (ltb 32768 (length input)) _ _ (le-ltb 32768 (length input) (omega arith)) ∙ ap answered c.in-Err.ensures.reading in
-    IfOk-weaker c.refused-line.result _ _ (λ t h. h ∙ sym short) c.refused-line.ensures
+    IfOk-weaker c.refused_line.result _ _ (λ t h. h ∙ sym short) c.refused_line.ensures
 
 pub returns-in-Ok : goal.returns-in-Ok
 returns-in-Ok c =
     let input = c.args.input.now in
     let whole : described input ≡ task_text (held c.in-Ok.task)
     = cond-false (ltb 32768 (length input)) _ _ (le-ltb 32768 (length input) (omega arith)) ∙ ap answered c.in-Ok.ensures.reading in
-    IfOk-weaker c.task-text.result _ _ (λ t h. h ∙ sym whole) c.task-text.ensures
+    IfOk-weaker c.task_text.result _ _ (λ t h. h ∙ sym whole) c.task_text.ensures

@@ -6,8 +6,8 @@ use Rattle.task.proofs.Judgings.{counted, level}
 use Rattle.task.proofs.NameLists.{name_printable, name_there}
 use Rattle.description.proofs.lines.step_line.Goals as goal
 
-pub move-line-requires : goal.move-line-requires
-move-line-requires c =
+pub move_line-requires : goal.move_line-requires
+move_line-requires c =
     let a = c.args.accepted.now in
     let b = held a.task in
     let k = c.args.k in

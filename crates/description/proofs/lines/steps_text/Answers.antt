@@ -11,6 +11,6 @@ loop-k-preserved c =
     let n = c.count-count.result in
     let left : n - k ≡ suc (n - (k + 1)) = omega arith in
     one_more (string_bytes c.loop-k.text) (step_lines b k (n - k)) (step_lines b 0 n) c.loop-k.invariant
-    (string_bytes c.push-str.new.self) (step_line b k) (step_lines b (k + 1) (n - (k + 1)))
-    (c.in-ok-push-str.ensures.bytes ∙ ap (λ t. string_bytes c.loop-k.text ++ t) (c.as-str.ensures.value ∙ c.in-ok-line.ensures))
+    (string_bytes c.push_str.new.self) (step_line b k) (step_lines b (k + 1) (n - (k + 1)))
+    (c.in_ok-push_str.ensures.bytes ∙ ap (λ t. string_bytes c.loop-k.text ++ t) (c.as_str.ensures.value ∙ c.in_ok-line.ensures))
     (ap (step_lines b k) left)

@@ -8,12 +8,12 @@ pub returns : goal.returns
 returns g c =
     let Q = g.Q.Queue in
     let K = g.row.K.Denot in
-    let put = c.put-all.ensures in
-    let took = c.take-all.ensures in
+    let put = c.put_all.ensures in
+    let took = c.take_all.ensures in
     let old = Q.entries c.args.q.now in
-    let mid = Q.entries c.put-all.new.q in
+    let mid = Q.entries c.put_all.new.q in
     let ks = c.args.costs.now in
-    let few = take_min ks (Q.room c.args.q.now - length old) c.put-all.result put.count.0 in
+    let few = take_min ks (Q.room c.args.q.now - length old) c.put_all.result put.count.0 in
     record {
       lent = took.lent ∙ put.lent;
       room = took.room ∙ put.room;
@@ -21,6 +21,6 @@ returns g c =
       rest = took.rest;
       ordered = λ h. took.ordered (put.ordered h);
       order = λ h.
-          drained_from g.K.Cost mid _ _ (Q.entries c.take-all.new.q)
+          drained_from g.K.Cost mid _ _ (Q.entries c.take_all.new.q)
           (subst (λ (l : List K). IsPermutation (numbered l 0 ++ old) mid) few (put.entries h)) (took.order (put.ordered h));
     }

@@ -19,7 +19,7 @@ grow-requires g c =
 
 pub returns-in-Ok : goal.returns-in-Ok
 returns-in-Ok g c =
-    let new = c.if-not-is-new.ensures in
+    let new = c.if-not-is_new.ensures in
     let o = g.Q.Queue.empty c.args.t.now.queue new.waiting in
     record {
       new = record { kept = new.kept; waiting = new.waiting; table = new.table };

@@ -17,13 +17,13 @@ loop-m-preserved g c =
     let a = c.args.accepted.now in
     let task = task_of (held a.task) in
     let i = c.loop-m.invariant in
-    let k = counts_some g.S.Store g.Q.Queue c.args.cap c.loop-m.t c.expand-move.new.t c.loop-m.p c.in-Some.q _ c.in-Some.is c.in-Ok.ensures.counts in (
+    let k = counts_some g.S.Store g.Q.Queue c.args.cap c.loop-m.t c.expand_move.new.t c.loop-m.p c.in-Some.q _ c.in-Some.is c.in-Ok.ensures.counts in (
       grown_then g.S.Store g.Q.Queue c.args.cap _ _ _ _ _ _ i.0 k,
-      c.expand-move.ensures.bytes ∙ i.1,
-      c.expand-move.ensures.records ∙ i.2,
+      c.expand_move.ensures.bytes ∙ i.1,
+      c.expand_move.ensures.records ∙ i.2,
       λ o rd.
           let h = i.3 o rd in
-          let x = moved_some g.K.Cost g.S.Store g.Q.Queue task c.args.cap c.args.n c.loop-m.m c.loop-m.t c.expand-move.new.t c.loop-m.p c.in-Some.q _ c.in-Some.is (c.in-Ok.ensures.moved h.0 h.2) in
+          let x = moved_some g.K.Cost g.S.Store g.Q.Queue task c.args.cap c.args.n c.loop-m.m c.loop-m.t c.expand_move.new.t c.loop-m.p c.in-Some.q _ c.in-Some.is (c.in-Ok.ensures.moved h.0 h.2) in
           (x.0, more h.1 x.1, ready_one g.K.Cost task c.args.cap (accepted_task (held a.task) a.counted a.positioned a.priced) h.2 x.1),
     )
 
@@ -31,16 +31,16 @@ pub returns-in-None : goal.returns-in-None
 returns-in-None g c =
     let task = task_of (held c.args.accepted.now.task) in
     let i = c.loop-m.invariant in
-    let e = counts_none g.S.Store g.Q.Queue c.args.cap c.loop-m.t c.expand-move.new.t c.loop-m.p _ c.in-None.is c.in-Ok.ensures.counts in
+    let e = counts_none g.S.Store g.Q.Queue c.args.cap c.loop-m.t c.expand_move.new.t c.loop-m.p _ c.in-None.is c.in-Ok.ensures.counts in
     record {
       counts = subst (λ z. Grown g.S.Store g.Q.Queue c.args.cap c.args.t.now c.args.from z c.loop-m.p) (sym e) i.0;
-      bytes = c.expand-move.ensures.bytes ∙ i.1;
-      records = c.expand-move.ensures.records ∙ i.2;
+      bytes = c.expand_move.ensures.bytes ∙ i.1;
+      records = c.expand_move.ensures.records ∙ i.2;
       expands = λ o rd.
           let h = i.3 o rd in
-          crowded_at g.K.Cost g.S.Store g.Q.Queue task c.args.cap c.args.n c.loop-m.m c.args.t.now c.loop-m.t c.expand-move.new.t c.args.from c.loop-m.p e
+          crowded_at g.K.Cost g.S.Store g.Q.Queue task c.args.cap c.args.n c.loop-m.m c.args.t.now c.loop-m.t c.expand_move.new.t c.args.from c.loop-m.p e
           (omega (arith, c.loop-m-test.true, c.move_count-m-end.ensures)) h.0 h.1
-          (moved_none g.K.Cost g.S.Store g.Q.Queue task c.args.cap c.args.n c.loop-m.m c.loop-m.t c.expand-move.new.t c.loop-m.p _ c.in-None.is (c.in-Ok.ensures.moved h.0 h.2));
+          (moved_none g.K.Cost g.S.Store g.Q.Queue task c.args.cap c.args.n c.loop-m.m c.loop-m.t c.expand_move.new.t c.loop-m.p _ c.in-None.is (c.in-Ok.ensures.moved h.0 h.2));
     }
 
 pub returns : goal.returns

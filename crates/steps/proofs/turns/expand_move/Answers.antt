@@ -8,8 +8,8 @@ use Rattle.steps.proofs.Tasks.{accepted_task, fair_price}
 use Rattle.steps.proofs.Moves.{here, never_misfit, grown_length, found_some, found_none, joined_at, at_width}
 use Rattle.steps.proofs.turns.expand_move.Goals as goal
 
-pub row-at-requires : goal.row-at-requires
-row-at-requires g c = record {
+pub row_at-requires : goal.row_at-requires
+row_at-requires g c = record {
   within = row_within c.args.n c.args.cap _ _ _ c.requires.scratch (omega arith) c.requires.bytes;
   short = omega (arith, (counted (held c.args.accepted.now.task) c.args.accepted.now.counted).few, c.requires.scratch);
 }
@@ -18,14 +18,14 @@ pub regress-requires : goal.regress-requires
 regress-requires g c =
     let w = row_within c.args.n c.args.cap (length c.args.scratch.now) _ _ c.requires.scratch (omega arith) c.requires.bytes in
     record {
-      row = ap length c.row-at.ensures ∙ length_row (length c.args.scratch.now) c.args.t.now.rows.now c.args.n w ∙ c.requires.scratch;
+      row = ap length c.row_at.ensures ∙ length_row (length c.args.scratch.now) c.args.t.now.rows.now c.args.n w ∙ c.requires.scratch;
       out = c.requires.scratch;
     }
 
 pub returns-in-None : goal.returns-in-None
 returns-in-None g c =
     let task = task_of (held c.args.accepted.now.task) in
-    let at = here task c.args.m c.args.t.now.rows.now c.args.n _ _ _ c.row-at.ensures c.requires.scratch c.in-None.ensures in
+    let at = here task c.args.m c.args.t.now.rows.now c.args.n _ _ _ c.row_at.ensures c.requires.scratch c.in-None.ensures in
     record {
       counts = record { more = omega arith; within = c.requires.within; store = refl; waits = refl };
       bytes = refl;
@@ -37,7 +37,7 @@ pub returns-in-Err : goal.returns-in-Err
 returns-in-Err g c =
     let a = c.args.accepted.now in
     let task = task_of (held a.task) in
-    let at = here task c.args.m c.args.t.now.rows.now c.args.n _ _ _ c.row-at.ensures c.requires.scratch c.in-Some.ensures.0 in
+    let at = here task c.args.m c.args.t.now.rows.now c.args.n _ _ _ c.row_at.ensures c.requires.scratch c.in-Some.ensures.0 in
     record {
       counts = tt;
       bytes = refl;
@@ -48,7 +48,7 @@ returns-in-Err g c =
 pub returns-in-Some-found : goal.returns-in-Some-found
 returns-in-Some-found g c =
     let task = task_of (held c.args.accepted.now.task) in
-    let at = here task c.args.m c.args.t.now.rows.now c.args.n _ _ _ c.row-at.ensures c.requires.scratch c.in-Some.ensures.0 in
+    let at = here task c.args.m c.args.t.now.rows.now c.args.n _ _ _ c.row_at.ensures c.requires.scratch c.in-Some.ensures.0 in
     record {
       counts = record { more = omega arith; within = c.requires.within; store = refl; waits = refl };
       bytes = refl;
@@ -59,7 +59,7 @@ returns-in-Some-found g c =
 pub returns-then-p-cap : goal.returns-then-p-cap
 returns-then-p-cap g c =
     let task = task_of (held c.args.accepted.now.task) in
-    let at = here task c.args.m c.args.t.now.rows.now c.args.n _ _ _ c.row-at.ensures c.requires.scratch c.in-Some.ensures.0 in
+    let at = here task c.args.m c.args.t.now.rows.now c.args.n _ _ _ c.row_at.ensures c.requires.scratch c.in-Some.ensures.0 in
     record {
       counts = refl;
       bytes = refl;
@@ -67,8 +67,8 @@ returns-then-p-cap g c =
       moved = λ o rd. record { result = _; moved = at; uncovered = found_none c.in-None-found.is c.in-Ok.ensures.1; full = c.if-p-cap.true };
     }
 
-pub returns-in-Err-move-cost : goal.returns-in-Err-move-cost
-returns-in-Err-move-cost g c =
+pub returns-in-Err-move_cost : goal.returns-in-Err-move_cost
+returns-in-Err-move_cost g c =
     let a = c.args.accepted.now in
     let task = task_of (held a.task) in
     record {
@@ -76,10 +76,10 @@ returns-in-Err-move-cost g c =
       bytes = refl;
       records = refl;
       moved = λ o rd.
-          let at = here task c.args.m c.args.t.now.rows.now c.args.n _ _ _ c.row-at.ensures c.requires.scratch c.in-Some.ensures.0 in
+          let at = here task c.args.m c.args.t.now.rows.now c.args.n _ _ _ c.row_at.ensures c.requires.scratch c.in-Some.ensures.0 in
           let le = fair_price task c.args.m _ _ (accepted_task (held a.task) a.counted a.positioned a.priced) at in
-          let e = ap g.K.Cost.joins (c.cost-at.ensures rd.fit.sound.noted ∙ ap (λ r. r.cost) rd.fit.sound.there.is) in
-          c.in-Err-move-cost.ensures (omega (arith, c.in-Some.ensures.1, le)) (omega (arith, e, rd.fit.sound.joins, rd.fit.sound.node, rd.fit.within, rd.fit.short));
+          let e = ap g.K.Cost.joins (c.cost_at.ensures rd.fit.sound.noted ∙ ap (λ r. r.cost) rd.fit.sound.there.is) in
+          c.in-Err-move_cost.ensures (omega (arith, c.in-Some.ensures.1, le)) (omega (arith, e, rd.fit.sound.joins, rd.fit.sound.node, rd.fit.within, rd.fit.short));
     }
 
 pub grow-requires : goal.grow-requires
@@ -102,7 +102,7 @@ returns-in-Err-grow g c = record {
 pub returns-in-Ok-grow : goal.returns-in-Ok-grow
 returns-in-Ok-grow g c =
     let task = task_of (held c.args.accepted.now.task) in
-    let at = here task c.args.m c.args.t.now.rows.now c.args.n _ _ _ c.row-at.ensures c.requires.scratch c.in-Some.ensures.0 in
+    let at = here task c.args.m c.args.t.now.rows.now c.args.n _ _ _ c.row_at.ensures c.requires.scratch c.in-Some.ensures.0 in
     let w = c.regress.auto.out ∙ c.requires.scratch in
     record {
       counts = record { more = omega arith; within = omega (arith, c.if-p-cap.false); store = c.grow.ensures.store; waits = omega (arith, c.in-Ok-grow.ensures.count) };
@@ -111,7 +111,7 @@ returns-in-Ok-grow g c =
       moved = λ o rd. (
         c.grow.ensures.ordered o,
         stores at (found_none c.in-None-found.is c.in-Ok.ensures.1) c.if-p-cap.false
-            (joined_at g.K.Cost task _ c.args.n c.args.m c.in-Ok-move-cost.cost c.cost-at.result c.in-Some.price rd.fit.sound.noted rd.fit.sound.there c.in-Some.ensures.1 c.cost-at.ensures c.in-Ok-move-cost.ensures.0 c.in-Ok-move-cost.ensures.1)
+            (joined_at g.K.Cost task _ c.args.n c.args.m c.in-Ok-move_cost.cost c.cost_at.result c.in-Some.price rd.fit.sound.noted rd.fit.sound.there c.in-Some.ensures.1 c.cost_at.ensures c.in-Ok-move_cost.ensures.0 c.in-Ok-move_cost.ensures.1)
             (record {
               bytes = at_width _ _ c.args.p.stored c.regress.new.out _ w c.grow.ensures.bytes;
               records = c.grow.ensures.records;

@@ -4,8 +4,8 @@ use Rattle.task.specs.Files.{move_at, record_size}
 use Rattle.task.proofs.Eaches.{each_from, each_not, record_within}
 use Rattle.task.proofs.checks.all_prices_fit.Goals as goal
 
-pub overflow-mul-k : goal.overflow-mul-k
-overflow-mul-k c = omega (arith, record_within c.loop-k.k (length c.args.moves.now) (record_size c.args.width) (omega arith))
+pub overflow_mul-k : goal.overflow_mul-k
+overflow_mul-k c = omega (arith, record_within c.loop-k.k (length c.args.moves.now) (record_size c.args.width) (omega arith))
 
 pub word-requires : goal.word-requires
 word-requires c = omega (arith, record_within c.loop-k.k (length c.args.moves.now) (record_size c.args.width) (omega arith))

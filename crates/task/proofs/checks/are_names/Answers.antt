@@ -4,13 +4,13 @@ use Rattle.task.specs.Files.{named, begins}
 use Rattle.task.proofs.NameLists.{named_more, named_stuck, named_none, begins_within}
 use Rattle.task.proofs.checks.are_names.Goals as goal
 
-pub returns-then-not-begins-name : goal.returns-then-not-begins-name
-returns-then-not-begins-name c =
+pub returns-then-not-begins_name : goal.returns-then-not-begins_name
+returns-then-not-begins_name c =
     let bs = c.args.names.now in
     let left : c.args.count - c.loop-k.-k ≡ suc (c.args.count - (c.loop-k.-k + 1)) = omega arith in
     sym (c.loop-k.invariant.1 ∙ ap (λ n. named n (drop c.loop-k.at bs)) left
     ∙ named_stuck (c.args.count - (c.loop-k.-k + 1)) (drop c.loop-k.at bs)
-    (sym (ap begins (take_rest bs c.loop-k.at)) ∙ sym c.begins-name.ensures ∙ c.if-not-begins-name.true))
+    (sym (ap begins (take_rest bs c.loop-k.at)) ∙ sym c.begins_name.ensures ∙ c.if-not-begins_name.true))
 
 pub loop-k-preserved : goal.loop-k-preserved
 loop-k-preserved c =
@@ -18,7 +18,7 @@ loop-k-preserved c =
     let at = c.loop-k.at in
     let left : c.args.count - c.loop-k.-k ≡ suc (c.args.count - (c.loop-k.-k + 1)) = omega arith in
     let here : begins (drop at bs) ≡ true
-    = sym (ap begins (take_rest bs at)) ∙ sym c.begins-name.ensures ∙ c.if-not-begins-name.false in
+    = sym (ap begins (take_rest bs at)) ∙ sym c.begins_name.ensures ∙ c.if-not-begins_name.false in
     let next : at + (1 + get_or bs at 0) ≡ at + (1 + c.from.result) = omega arith in (
       omega (arith, (begins_within at bs here).1),
       c.loop-k.invariant.1 ∙ ap (λ n. named n (drop at bs)) left ∙ named_more (c.args.count - (c.loop-k.-k + 1)) at bs here

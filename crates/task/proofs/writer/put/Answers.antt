@@ -8,5 +8,5 @@ returns c =
     let at = c.args.at in
     record {
       end = refl;
-      after = over_part at (at + length piece - at) c.args.out.now piece c.copy-from-slice.new.self (omega arith) c.copy-from-slice.ensures.after (omega arith);
+      after = over_part at (at + length piece - at) c.args.out.now piece c.copy_from_slice.new.self (omega arith) c.copy_from_slice.ensures.after (omega arith);
     }

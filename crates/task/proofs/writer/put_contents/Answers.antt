@@ -11,8 +11,8 @@ returns c =
     let g = c.args.goal in
     let m = c.args.moves in
     let none : Done 0 [] old old = record { long = refl; is = refl } in
-    let one = next (entry 40 v) none c.put-entry-first.ensures.end c.put-entry-first.ensures.after in
-    let two = next (entry (40 + v) s) one c.put-entry-second.ensures.end c.put-entry-second.ensures.after in
-    let three = next (entry (40 + v + s) g) two c.put-entry-third.ensures.end c.put-entry-third.ensures.after in
-    let four = next (entry (40 + v + s + g) m) three c.put-entry-fourth.ensures.end c.put-entry-fourth.ensures.after in
-    (next (entry (40 + v + s + g + m) c.args.names) four c.put-entry.ensures.end c.put-entry.ensures.after).is
+    let one = next (entry 40 v) none c.put_entry-first.ensures.end c.put_entry-first.ensures.after in
+    let two = next (entry (40 + v) s) one c.put_entry-second.ensures.end c.put_entry-second.ensures.after in
+    let three = next (entry (40 + v + s) g) two c.put_entry-third.ensures.end c.put_entry-third.ensures.after in
+    let four = next (entry (40 + v + s + g) m) three c.put_entry-fourth.ensures.end c.put_entry-fourth.ensures.after in
+    (next (entry (40 + v + s + g + m) c.args.names) four c.put_entry.ensures.end c.put_entry.ensures.after).is

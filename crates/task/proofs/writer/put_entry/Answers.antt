@@ -12,8 +12,8 @@ returns c =
     let front = take at old in
     let middle = c.put-middle.result in
     let buffer = c.put-middle.new.out in
-    let one : c.to-le-bytes.result ≡ coded c.args.place = c.to-le-bytes.ensures in
-    let two : c.to-le-bytes-2.result ≡ coded c.args.size = c.to-le-bytes-2.ensures in
+    let one : c.to_le_bytes.result ≡ coded c.args.place = c.to_le_bytes.ensures in
+    let two : c.to_le_bytes-2.result ≡ coded c.args.size = c.to_le_bytes-2.ensures in
     let first : buffer ≡ over (front ++ coded c.args.place) old = c.put-middle.ensures.after ∙ ap (λ p. over (front ++ p) old) one in
     let long : middle ≡ length (front ++ coded c.args.place)
     = omega (arith, c.put-middle.ensures.end, ap length one, length-append front (coded c.args.place), length-take-le at old (omega arith)) in

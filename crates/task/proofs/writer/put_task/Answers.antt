@@ -8,6 +8,6 @@ pub returns : goal.returns
 returns c =
     let b = held c.args.task.now in
     record {
-      end = c.put-bodies.ensures.end;
-      after = c.put-bodies.ensures.after ∙ over_more (contents b) (parts b) c.args.out.now c.put-contents.new.out 40 refl c.put-contents.ensures;
+      end = c.put_bodies.ensures.end;
+      after = c.put_bodies.ensures.after ∙ over_more (contents b) (parts b) c.args.out.now c.put_contents.new.out 40 refl c.put_contents.ensures;
     }

@@ -9,8 +9,8 @@ returns g c =
     let C = g.K.Cost in
     let xs = c.args.self.now.entries.now in
     let k = c.args.self.now.count in
-    let is = c.in-use-count.ensures in
+    let is = c.in_use-count.ensures in
     record {
       count = some_front xs k _ is c.if-count-eq0.false;
-      names = λ h. names_at C xs k _ c.root-number.result is (c.root-number.ensures (heaped_at C xs _ _ (sym is) h));
+      names = λ h. names_at C xs k _ c.root_number.result is (c.root_number.ensures (heaped_at C xs _ _ (sym is) h));
     }

@@ -8,15 +8,15 @@ pub returns : goal.returns
 returns g c =
     let C = g.K.Cost in
     let xs = c.args.self.now.entries.now in
-    let root = c.take-root-taken.ensures in
-    let zs = c.take-root-taken.new.row in
+    let root = c.take_root-taken.ensures in
+    let zs = c.take_root-taken.new.row in
     let k = c.args.self.now.count in
-    let n = c.in-use-count.result in
-    let is = c.in-use-count.ensures in
+    let n = c.in_use-count.result in
+    let is = c.in_use-count.ensures in
     record {
       lent = refl;
       room = search rules;
       count = take_counts xs zs k n is (search rules) (search rules);
       ordered = λ h. heaped_at C zs _ _ (search rules) (root.heaped (heaped_at C xs _ _ (sym is) h));
-      entries = λ h. taken_at C xs zs k n c.take-root-taken.result is (search rules) (root.least (heaped_at C xs _ _ (sym is) h)) root.after;
+      entries = λ h. taken_at C xs zs k n c.take_root-taken.result is (search rules) (root.least (heaped_at C xs _ _ (sym is) h)) root.after;
     }

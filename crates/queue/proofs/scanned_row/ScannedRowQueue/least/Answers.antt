@@ -7,6 +7,6 @@ returns g c =
     let xs = c.args.self.now.entries.now in
     let k = c.args.self.now.count in
     record {
-      count = some_front xs k _ c.in-use-count.ensures c.if-count-eq0.false;
-      names = λ u. names_at g.K.Cost xs k _ c.first-number.result c.in-use-count.ensures c.first-number.ensures;
+      count = some_front xs k _ c.in_use-count.ensures c.if-count-eq0.false;
+      names = λ u. names_at g.K.Cost xs k _ c.first_number.result c.in_use-count.ensures c.first_number.ensures;
     }

@@ -28,8 +28,8 @@ bounds-row-v c =
     let e = wide c.args.self.now.values.now c.args.row.now (sym c.if-not-fits.ensures) in
     omega arith
 
-pub invariant-of-self : goal.invariant-of-self
-invariant-of-self c =
+pub invariant_of-self : goal.invariant_of-self
+invariant_of-self c =
     let s = c.loop-v.self in
     let a = c.args.self.now in
     let v : s.values ≡ a.values = c.loop-v.invariant.values in
@@ -59,8 +59,8 @@ loop-v-preserved c =
           (get_or-set_same _ _ _ 0 b);
     }
 
-pub invariant-of-self-2 : goal.invariant-of-self-2
-invariant-of-self-2 c =
+pub invariant_of-self-2 : goal.invariant_of-self-2
+invariant_of-self-2 c =
     (filled c.args.self.now c.loop-v.self c.args.row.now c.loop-v.v c.loop-v.invariant (omega (arith, c.loop-v-test.false))
     (sym c.if-not-fits.ensures) c.if-n-self.false c.if-holds.ensures).0
 

@@ -5,8 +5,8 @@ use Rattle.task.proofs.Eaches.{record_within}
 use Rattle.task.proofs.Judgings.{counted}
 use Rattle.task.proofs.accepted.Accepted.step.Goals as goal
 
-pub record-at-requires : goal.record-at-requires
-record-at-requires c =
+pub record_at-requires : goal.record_at-requires
+record_at-requires c =
     let t = c.args.self.now.task in
     record {
       few = (counted (held t) c.args.self.now.counted).few;

@@ -6,15 +6,15 @@ use Rattle.trie.specs.Lookups.{Looked}
 use Rattle.trie.specs.Ways.{falls_deeper, look_leaf, look_along, along_look, along_along, along_skip, gone_step, looked_step}
 use Rattle.trie.proofs.Descents.{of}
 use Rattle.trie.proofs.tries.Trie.+along_look.Goals as goal
-use Rattle.trie.proofs.tries.Trie.+along_look.Goals.{along-then-leads+in-default, along-else-leads}
+use Rattle.trie.proofs.tries.Trie.+along_look.Goals.{along-then-leads+in_default, along-else-leads}
 
-pub along-offset-bounds-self-b : goal.along-offset-bounds-self-b
-along-offset-bounds-self-b t c =
+pub along-offset_bounds-self-b : goal.along-offset_bounds-self-b
+along-offset_bounds-self-b t c =
     let i : c.args.b < length c.args.self.now.cells.now = omega (arith, (of c.args.self.now).inside c.requires.some, c.requires.within) in
     search rules
 
-pub along-look-requires : goal.along-look-requires
-along-look-requires t c =
+pub along_look-requires : goal.along_look-requires
+along_look-requires t c =
     let s = c.args.self.now in (
       omega (arith, falls_deeper (length s.values.now) c.args.level s.used c.args.b c.requires.shallow, c.decreases),
       along_look _ _ _ _ _ (of s) c.args.b c.args.level c.requires (omega arith) (sym c.if-leads.ensures),
@@ -34,21 +34,21 @@ along-returns t c =
     let p : 0 < c.args.b = omega arith in
     let here : Looked s.values.now c.args.row.now s.cells.now s.used s.count c.args.b (c.args.level + 1) None =
     elim c.if-leads.branch [
-      | along-then-leads+in-default w ↦ w.in-default.ensures
+      | along-then-leads+in_default w ↦ w.in_default.ensures
       | along-else-leads w ↦ along_skip _ _ _ _ _ (of s) c.args.b c.args.level c.requires (both_ways (covers_at (at s.cells.now c.args.b).byte (get_or c.args.row.now c.args.level 0)) (sym w.if-leads.ensures))
     ] in
     gone_step _ _ _ _ _ (of s) c.args.b c.args.level c.requires p here c.along.result c.along.ensures
 
-pub look-offset-bounds-self-c : goal.look-offset-bounds-self-c
-look-offset-bounds-self-c t c =
+pub look-offset_bounds-self-c : goal.look-offset_bounds-self-c
+look-offset_bounds-self-c t c =
     let i : c.args.c < length c.args.self.now.cells.now = omega (arith, (of c.args.self.now).inside c.requires.some, c.requires.within) in
     search rules
 
 pub look-returns-then-level-self : goal.look-returns-then-level-self
 look-returns-then-level-self t c = look_leaf _ _ _ _ _ (of c.args.self.now) c.args.c c.args.level c.requires c.if-level-self.true
 
-pub look-offset-bounds-self-c-2 : goal.look-offset-bounds-self-c-2
-look-offset-bounds-self-c-2 t c =
+pub look-offset_bounds-self-c-2 : goal.look-offset_bounds-self-c-2
+look-offset_bounds-self-c-2 t c =
     let i : c.args.c < length c.args.self.now.cells.now = omega (arith, (of c.args.self.now).inside c.requires.some, c.requires.within) in
     search rules
 

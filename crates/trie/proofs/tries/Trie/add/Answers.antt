@@ -7,16 +7,16 @@ use Rattle.trie.proofs.Descents.{reach}
 use Rattle.trie.proofs.Fills.{short, space_next, still, hung}
 use Rattle.trie.proofs.tries.Trie.add.Goals as goal
 
-pub overflow-sub-k : goal.overflow-sub-k
-overflow-sub-k c =
+pub overflow_sub-k : goal.overflow_sub-k
+overflow_sub-k c =
     let e = both_length fits_at c.args.self.now.values.now c.args.row.now c.requires.fit in
     omega (arith, c.requires.fresh)
 
 pub bounds-self-c : goal.bounds-self-c
 bounds-self-c c = let a = c.args.self.now in omega (arith, reach a (omega (arith, c.requires.spare)), c.requires.way.within)
 
-pub offset-bounds-self-c : goal.offset-bounds-self-c
-offset-bounds-self-c c =
+pub offset_bounds-self-c : goal.offset_bounds-self-c
+offset_bounds-self-c c =
     let a = c.args.self.now in
     let i : c.args.c ≤ 4194241 = omega (arith, short a 0 c.requires.spare (omega arith), c.requires.way.within) in
     search rules
@@ -30,16 +30,16 @@ link-requires c =
     let i : a.used + (c.loop-i.i + 1) ≤ 4194241 = short a (c.loop-i.i + 1) c.requires.spare k in
     search rules
 
-pub overflow-add-from : goal.overflow-add-from
-overflow-add-from c =
+pub overflow_add-from : goal.overflow_add-from
+overflow_add-from c =
     let a = c.args.self.now in
     let e = both_length fits_at a.values.now c.args.row.now c.requires.fit in
     let k : c.loop-i.i + 1 ≤ length a.values.now = omega (arith, c.loop-i-test.true) in
     let i : a.used + (c.loop-i.i + 1) ≤ 4194241 = short a (c.loop-i.i + 1) c.requires.spare k in
     search rules
 
-pub offset-bounds-self-from : goal.offset-bounds-self-from
-offset-bounds-self-from c =
+pub offset_bounds-self-from : goal.offset_bounds-self-from
+offset_bounds-self-from c =
     let a = c.args.self.now in
     let e = both_length fits_at a.values.now c.args.row.now c.requires.fit in
     let k : c.loop-i.i + 1 ≤ length a.values.now = omega (arith, c.loop-i-test.true) in
@@ -52,8 +52,8 @@ bounds-self-from c =
     let e = both_length fits_at a.values.now c.args.row.now c.requires.fit in
     omega (arith, space_next a (length c.args.row.now - c.args.level) c.requires.spare (omega arith), c.loop-i.invariant.long, c.loop-i-test.true)
 
-pub invariant-of-self : goal.invariant-of-self
-invariant-of-self c = still c.loop-i.self (c.args.self.now.used + c.loop-i.i) c.link.result (omega (arith, c.loop-i.invariant.used))
+pub invariant_of-self : goal.invariant_of-self
+invariant_of-self c = still c.loop-i.self (c.args.self.now.used + c.loop-i.i) c.link.result (omega (arith, c.loop-i.invariant.used))
 
 pub loop-i-preserved : goal.loop-i-preserved
 loop-i-preserved c =
@@ -77,14 +77,14 @@ loop-i-preserved c =
           (get_or-set_same s.cells.now (a.used + i) c.link.result blank h ∙ c.link.ensures);
     }
 
-pub overflow-cast-self : goal.overflow-cast-self
-overflow-cast-self c =
+pub overflow_cast-self : goal.overflow_cast-self
+overflow_cast-self c =
     let a = c.args.self.now in
     let i : a.used + 0 ≤ 4194241 = short a 0 c.requires.spare (omega arith) in
     search rules
 
-pub offset-bounds-self-c-2 : goal.offset-bounds-self-c-2
-offset-bounds-self-c-2 c =
+pub offset_bounds-self-c-2 : goal.offset_bounds-self-c-2
+offset_bounds-self-c-2 c =
     let a = c.args.self.now in
     let i : c.args.c ≤ 4194241 = omega (arith, short a 0 c.requires.spare (omega arith), c.requires.way.within) in
     search rules
@@ -94,15 +94,15 @@ bounds-self-c-2 c =
     let a = c.args.self.now in
     omega (arith, reach a (omega (arith, c.requires.spare)), c.requires.way.within, c.loop-i.invariant.long)
 
-pub overflow-add-self : goal.overflow-add-self
-overflow-add-self c =
+pub overflow_add-self : goal.overflow_add-self
+overflow_add-self c =
     let a = c.args.self.now in
     let e = both_length fits_at a.values.now c.args.row.now c.requires.fit in
     let i : a.used + (length c.args.row.now - c.args.level) ≤ 4194241 = short a (length c.args.row.now - c.args.level) c.requires.spare (omega arith) in
     search rules
 
-pub invariant-of-self-2 : goal.invariant-of-self-2
-invariant-of-self-2 c =
+pub invariant_of-self-2 : goal.invariant_of-self-2
+invariant_of-self-2 c =
     let a = c.args.self.now in
     let e = both_length fits_at a.values.now c.args.row.now c.requires.fit in
     (hung a c.loop-i.self c.args.row.now c.args.c c.args.level (length c.args.row.now - c.args.level) c.loop-i.i
