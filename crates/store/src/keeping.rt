@@ -6,11 +6,11 @@ use rows::refusals::Refusal;
 
 // Keeps the row unless a kept row covers it, and answers the rank of that one.
 pub fn keep_unless_covered<S: Store>(s: &mut S, row: &[u8]) -> Result<Option<u16>, Refusal>
-    ensures answer { UnlessCovered (table s.old) (kept s.old) (space s.old) row.now (kept s.new) result }
+    ensures answer { UnlessCovered (S.table s.old) (S.kept s.old) (S.space s.old) row.now (S.kept s.new) result }
     ensures still { StillUnless result s.old s.new }
-    ensures values { table s.new ≡ table s.old }
-    ensures space { space s.new ≡ space s.old }
-    ensures lender { lender s.new ≡ lender s.old }
+    ensures values { S.table s.new ≡ S.table s.old }
+    ensures space { S.space s.new ≡ S.space s.old }
+    ensures lender { S.lender s.new ≡ S.lender s.old }
 {
     match s.cover(row)? {
         Some(r) => Ok(Some(r)),
