@@ -1,3 +1,5 @@
+#![tactic(auto)]
+
 ghost use Rattle.std.specs.Prelude.{◌≡◌, ℕ, ◌<◌, ◌≤◌, ◌&&◌, List, ◌++◌, length, drop, MatchBool, MatchOption, nat_lt, slice_index_or, slice_set};
 ghost use Rattle.steps.specs.declared.tables.Record.{Record};
 ghost use Rattle.chains.specs.Chains.{Link, Chain, Broken, Reading, NeverBoth, OneChain, FewMoves, OneReading};

@@ -1,3 +1,5 @@
+#![tactic(auto)]
+
 pub mod costs;
 pub mod limits;
 pub mod peak;

@@ -1,3 +1,5 @@
+#![tactic(auto)]
+
 use description::{LONGEST, describe};
 use std::alloc::Global;
 use std::io;

@@ -1,3 +1,5 @@
+#![tactic(auto)]
+
 ghost use Rattle.std.specs.Prelude.{◌≡◌, ◌+◌, ◌*◌, ◌≤◌, true, ◌++◌, length, IfOk, string_bytes, codes};
 ghost use Rattle.rows.specs.Rows.{all, pulled};
 ghost use Rattle.task.specs.Answers.{move_of};

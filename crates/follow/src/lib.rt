@@ -1,2 +1,4 @@
+#![tactic(auto)]
+
 pub mod jobs;
 pub mod tables;

@@ -1,2 +1,4 @@
+#![tactic(auto)]
+
 pub mod beliefs;
 pub mod spaces;

@@ -1,3 +1,5 @@
+#![tactic(auto)]
+
 pub mod batches;
 pub mod entries;
 pub mod places;

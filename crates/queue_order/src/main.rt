@@ -1,4 +1,6 @@
 // The order in which the same few plans come out of both makes of queue, in each kind of cost.
+#![tactic(auto)]
+
 use cost::costs::Cost;
 use cost::peak::Peak;
 use cost::plans::plan_cost;

@@ -1,3 +1,5 @@
+#![tactic(auto)]
+
 ghost use Rattle.std.specs.Prelude.{◌≡◌, ◌≤◌, ◌&&◌, length};
 ghost use Rattle.rows.specs.Calls.{over};
 ghost use Rattle.rows.specs.Rows.{overlaid, overlaid_at, hits, hits_at, clear, clashes, backed, backed_at};

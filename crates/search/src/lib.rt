@@ -1,3 +1,5 @@
+#![tactic(auto)]
+
 pub mod jobs;
 pub mod opens;
 mod reading;

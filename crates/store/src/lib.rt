@@ -1,3 +1,5 @@
+#![tactic(auto)]
+
 pub mod capacity;
 pub mod keeping;
 pub mod row_store;

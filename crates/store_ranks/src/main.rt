@@ -1,5 +1,7 @@
 // Keeps rows in both makes of store, asks both, and shows what they answer side by side.
 // With any argument it measures them instead.
+#![tactic(auto)]
+
 ghost use Rattle.std.specs.Prelude.{◌≡◌, ◌-◌, length, slice_set};
 ghost use Rattle.store.specs.Stores.{space_of};
 ghost use Rattle.trie.specs.Cells.{blank};

@@ -1,4 +1,6 @@
 // Tests of the task file: what the reader accepts, and on which ground it refuses.
+#![tactic(auto)]
+
 #[cfg(test)]
 mod tests {
     use rows::refusals::Refusal;

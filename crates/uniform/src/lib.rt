@@ -1,3 +1,5 @@
+#![tactic(auto)]
+
 pub mod promises;
 pub mod samples;
 pub mod settings;
