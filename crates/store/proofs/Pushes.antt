@@ -64,16 +64,23 @@ fit_push values rows row a f r h =
     ]
 
 -- what the ghost fields of a row store ask
-abbrev pub Sound : List ℕ → List ℕ → ℕ → ℕ → Type 0
-Sound values bytes space count =
-    (space ≡ space_of values (length bytes)) × ((count ≤ space) × (Distinct (rows_of (length values) count bytes) × (AllFit values (rows_of (length values) count bytes) × Unit {0})))
+pub record Sound (values bytes : List ℕ) (space count : ℕ) : Type 0 where
+  pub measured : space ≡ space_of values (length bytes)
+  pub inside : count ≤ space
+  pub apart : Distinct (rows_of (length values) count bytes)
+  pub fit : AllFit values (rows_of (length values) count bytes)
 
 pub still_sound : (values bytes : List ℕ) (space count i x : ℕ) → count * length values ≤ i
     → space ≡ space_of values (length bytes) → count ≤ space → Distinct (rows_of (length values) count bytes) → AllFit values (rows_of (length values) count bytes)
     → Sound values (set bytes i x) space count
 still_sound values bytes space count i x le m c d a =
     let e = sym (rows_set (length values) count bytes i x le) in
-    (m ∙ ap (space_of values) (sym (length-set bytes i x)), (c, (subst Distinct e d, (subst (AllFit values) e a, tt))))
+    record {
+      measured = m ∙ ap (space_of values) (sym (length-set bytes i x));
+      inside = c;
+      apart = subst Distinct e d;
+      fit = subst (AllFit values) e a;
+    }
 
 pub more_sound : (values bytes row : List ℕ) (space count : ℕ)
     → fits values row ≡ true → count < space → space ≡ space_of values (length bytes)
@@ -83,5 +90,12 @@ pub more_sound : (values bytes row : List ℕ) (space count : ℕ)
     → Sound values bytes space (count + 1) × (rows_of (length values) (count + 1) bytes ≡ rows_of (length values) count bytes ++ row ∷ [])
 more_sound values bytes row space count f l m d a none w =
     let i = inside values (length bytes) space count m l in
-    let p = rows_push (length values) count bytes row (sym (both_length fits_at values row f)) i w in
-    ((m, (omega arith, (subst Distinct (sym p) (distinct_push _ row d none), (subst (AllFit values) (sym p) (fit_push values _ row a f), tt)))), p)
+    let p = rows_push (length values) count bytes row (sym (both_length fits_at values row f)) i w in (
+      record {
+        measured = m;
+        inside = omega arith;
+        apart = subst Distinct (sym p) (distinct_push _ row d none);
+        fit = subst (AllFit values) (sym p) (fit_push values _ row a f);
+      },
+      p,
+    )

@@ -42,17 +42,20 @@ space_next a k h l =
     omega (arith, f, (of a).few, add-mul a.count 1 w, one-mul w)
 
 -- what the ghost fields ask
-abbrev pub Asked : List ℕ → List Cell → ℕ → ℕ → ℕ → Type 0
-Asked values cells space used count =
-    (space ≡ space_of values (length cells - 1)) × ((count ≤ space) × (IsSound values cells used count × Unit {0}))
+pub record Asked (values : List ℕ) (cells : List Cell) (space used count : ℕ) : Type 0 where
+  pub measured : space ≡ space_of values (length cells - 1)
+  pub inside : count ≤ space
+  pub sound : IsSound values cells used count
 
 pub still : (s : Trie) (i : ℕ) (y : Cell) → s.used ≤ i → Asked s.values.now (set s.cells.now i y) s.space s.used s.count
 still s i y h =
     let cs = s.cells.now in
-    let o : (x : ℕ) → x < s.used → at (set cs i y) x ≡ at cs x = λ x l. let ne : x ≢ i = omega arith in get_or-set_other cs i x y blank ne in (
-      s.measured ∙ ap (λ n. space_of s.values.now (n - 1)) (sym (length-set cs i y)),
-      (s.inside, ((λ x. x (same_sound s.values.now cs (set cs i y) s.used s.count (length-set cs i y) o (of s))), tt)),
-    )
+    let o : (x : ℕ) → x < s.used → at (set cs i y) x ≡ at cs x = λ x l. let ne : x ≢ i = omega arith in get_or-set_other cs i x y blank ne in
+    record {
+      measured = s.measured ∙ ap (λ n. space_of s.values.now (n - 1)) (sym (length-set cs i y));
+      inside = s.inside;
+      sound = λ x. x (same_sound s.values.now cs (set cs i y) s.used s.count (length-set cs i y) o (of s));
+    }
 
 -- the trie s is the trie a but for the first i of the k new cells of the row, which lie past the used ones
 pub record Filling (a s : Trie) (row : List ℕ) (head level k i : ℕ) : Type 0 where
@@ -82,9 +85,10 @@ hung a s row c level k i w all h d ends some fit =
     let z = grown_sound a.values.now row a.cells.now ds a.used a.count c level k (of a) g in
     let r = grown_rows a.values.now row a.cells.now ds a.used a.count c level k (of a) g in
     let n : length s.cells.now ≡ length ds = sym (length-set s.cells.now c _) in (
-      (
-        s.measured ∙ ap (λ x. space_of s.values.now (x - 1)) n,
-        (omega (arith, w.space), (subst (λ x. IsSound x ds (a.used + k) (a.count + 1)) (sym v) (λ x. x z), tt)),
-      ),
+      record {
+        measured = s.measured ∙ ap (λ x. space_of s.values.now (x - 1)) n;
+        inside = omega (arith, w.space);
+        sound = subst (λ x. IsSound x ds (a.used + k) (a.count + 1)) (sym v) (λ x. x z);
+      },
       ap (λ x. rows_in (length x) ds (a.used + k) (a.count + 1)) v ∙ r,
     )

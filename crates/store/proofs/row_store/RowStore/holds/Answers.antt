@@ -6,7 +6,7 @@ use Rattle.store.proofs.row_store.RowStore.holds.Goals as goal
 pub bounds-self-at : goal.bounds-self-at
 bounds-self-at c =
     let s = c.args.self.now in
-    let i : (c.rows.r + 1) * length s.values.now ≤ length s.bytes.now = inside s.values.now (length s.bytes.now) s.space c.rows.r s.decreases (omega arith) in
+    let i : (c.rows.r + 1) * length s.values.now ≤ length s.bytes.now = inside s.values.now (length s.bytes.now) s.space c.rows.r s.measured (omega arith) in
     place_inside (length s.values.now) (length s.bytes.now) c.rows.r c.loop-v.v i (omega arith)
 
 pub rows-preserved : goal.rows-preserved
@@ -17,7 +17,7 @@ rows-preserved c =
 pub returns-in-rows : goal.returns-in-rows
 returns-in-rows c =
     let s = c.args.self.now in
-    let i : (c.rows.r + 1) * length s.values.now ≤ length s.bytes.now = inside s.values.now (length s.bytes.now) s.space c.rows.r s.decreases (omega arith) in
+    let i : (c.rows.r + 1) * length s.values.now ≤ length s.bytes.now = inside s.values.now (length s.bytes.now) s.space c.rows.r s.measured (omega arith) in
     let e = same_row (length s.values.now) s.bytes.now c.args.row.now c.rows.r c.requires i (λ k h. c.loop-v.invariant k (omega arith)) in
     let o = one_of (λ x. x ≡ c.args.row.now) (length s.values.now) s.count s.bytes.now c.rows.r (omega arith) e in
     (c.rows.r, o.0, o.1)

@@ -8,7 +8,7 @@ use Rattle.store.proofs.Searches.{wide, row_both, row_not_both, none_of, one_of}
 use Rattle.store.proofs.row_store.RowStoreStore.cover.Goals as goal
 
 lies : (s : RowStore) (r : ℕ) → r < s.count → (r + 1) * length s.values.now ≤ length s.bytes.now
-lies s r h = inside s.values.now (length s.bytes.now) s.space r s.decreases (omega (arith, s.inside))
+lies s r h = inside s.values.now (length s.bytes.now) s.space r s.measured (omega (arith, s.inside))
 
 pub bounds-self-at : goal.bounds-self-at
 bounds-self-at c =

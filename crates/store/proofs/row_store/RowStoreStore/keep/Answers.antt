@@ -1,4 +1,4 @@
-use Rattle.std.proofs.Common.{◌≡◌, ◌+◌, ◌*◌, ◌<◌, ◌≢◌, length, sym, refl, ap, ◌∙◌, arith, below_more}
+use Rattle.std.proofs.Common.{◌≡◌, ◌+◌, ◌*◌, ◌<◌, ◌≢◌, get_or, length, sym, refl, ap, ◌∙◌, arith, below_more}
 use Rattle.std.proofs.lemmas.List.{length-set, get_or-set_other, get_or-set_same}
 use Rattle.store.specs.Blocks.{length_rows}
 use Rattle.store.proofs.Searches.{wide}
@@ -13,7 +13,7 @@ pub returns-then-n-self : goal.returns-then-n-self
 returns-then-n-self c =
     let a = c.args.self.now in
     record {
-      answer = (refl, (sym c.if-not-fits.ensures, c.if-holds.ensures, omega (arith, a.decreases, length_rows (length a.values.now) a.count a.bytes.now)));
+      answer = (refl, (sym c.if-not-fits.ensures, c.if-holds.ensures, omega (arith, a.measured, length_rows (length a.values.now) a.count a.bytes.now)));
       still = refl;
       values = refl;
       space = refl;
@@ -35,7 +35,9 @@ invariant_of-self c =
     let v : s.values ≡ a.values = c.loop-v.invariant.values in
     let n : s.count ≡ a.count = c.loop-v.invariant.count in
     let e : s.count * length s.values.now ≡ a.count * length a.values.now = cc in
-    still_sound s.values.now s.bytes.now s.space s.count _ _ (omega arith) s.decreases s.inside s.apart s.fit
+    let at = a.count * length a.values.now in
+    let t = still_sound s.values.now s.bytes.now s.space s.count (at + c.loop-v.v) (get_or c.args.row.now c.loop-v.v 0) (omega arith) s.measured s.inside s.apart s.fit in
+    record { measured = t.measured; inside = t.inside; apart = t.apart; fit = t.fit }
 
 pub loop-v-preserved : goal.loop-v-preserved
 loop-v-preserved c =
@@ -61,8 +63,8 @@ loop-v-preserved c =
 
 pub invariant_of-self-2 : goal.invariant_of-self-2
 invariant_of-self-2 c =
-    (filled c.args.self.now c.loop-v.self c.args.row.now c.loop-v.v c.loop-v.invariant (omega (arith, c.loop-v-test.false))
-    (sym c.if-not-fits.ensures) c.if-n-self.false c.if-holds.ensures).0
+    let d = filled c.args.self.now c.loop-v.self c.args.row.now c.loop-v.v c.loop-v.invariant (omega (arith, c.loop-v-test.false)) (sym c.if-not-fits.ensures) c.if-n-self.false c.if-holds.ensures in
+    record { measured = d.0.measured; inside = d.0.inside; apart = d.0.apart; fit = d.0.fit }
 
 pub returns : goal.returns
 returns c =
@@ -71,9 +73,9 @@ returns c =
     let f = sym c.if-not-fits.ensures in
     let d = filled a c.loop-v.self c.args.row.now c.loop-v.v w (omega (arith, c.loop-v-test.false)) f c.if-n-self.false c.if-holds.ensures in
     record {
-      answer = (f, c.if-holds.ensures, omega (arith, a.decreases, c.if-n-self.false, length_rows (length a.values.now) a.count a.bytes.now), d.1);
+      answer = (f, c.if-holds.ensures, omega (arith, a.measured, c.if-n-self.false, length_rows (length a.values.now) a.count a.bytes.now), d.1);
       still = tt;
       values = ap (λ x. x.now) w.values;
-      space = sym c.loop-v.self.measured ∙ w.space ∙ a.decreases;
+      space = sym c.loop-v.self.measured ∙ w.space ∙ a.measured;
       lender = w.lender;
     }

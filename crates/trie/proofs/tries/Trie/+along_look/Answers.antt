@@ -13,8 +13,8 @@ along-offset_bounds-self-b t c =
     let i : c.args.b < length c.args.self.now.cells.now = omega (arith, (of c.args.self.now).inside c.requires.some, c.requires.within) in
     search rules
 
-pub along_look-requires : goal.along_look-requires
-along_look-requires t c =
+pub along-look-requires : goal.along-look-requires
+along-look-requires t c =
     let s = c.args.self.now in (
       omega (arith, falls_deeper (length s.values.now) c.args.level s.used c.args.b c.requires.shallow, c.decreases),
       along_look _ _ _ _ _ (of s) c.args.b c.args.level c.requires (omega arith) (sym c.if-leads.ensures),

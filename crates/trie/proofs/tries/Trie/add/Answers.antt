@@ -53,7 +53,9 @@ bounds-self-from c =
     omega (arith, space_next a (length c.args.row.now - c.args.level) c.requires.spare (omega arith), c.loop-i.invariant.long, c.loop-i-test.true)
 
 pub invariant_of-self : goal.invariant_of-self
-invariant_of-self c = still c.loop-i.self (c.args.self.now.used + c.loop-i.i) c.link.result (omega (arith, c.loop-i.invariant.used))
+invariant_of-self c =
+    let t = still c.loop-i.self (c.args.self.now.used + c.loop-i.i) c.link.result (omega (arith, c.loop-i.invariant.used)) in
+    record { measured = t.measured; inside = t.inside; sound = t.sound }
 
 pub loop-i-preserved : goal.loop-i-preserved
 loop-i-preserved c =
@@ -105,8 +107,9 @@ pub invariant_of-self-2 : goal.invariant_of-self-2
 invariant_of-self-2 c =
     let a = c.args.self.now in
     let e = both_length fits_at a.values.now c.args.row.now c.requires.fit in
-    (hung a c.loop-i.self c.args.row.now c.args.c c.args.level (length c.args.row.now - c.args.level) c.loop-i.i
-    c.loop-i.invariant (omega (arith, c.loop-i-test.false)) c.requires.spare c.requires.way (omega (arith, c.requires.fresh)) (omega (arith, c.requires.fresh)) c.requires.fit).0
+    let h = hung a c.loop-i.self c.args.row.now c.args.c c.args.level (length c.args.row.now - c.args.level) c.loop-i.i
+    c.loop-i.invariant (omega (arith, c.loop-i-test.false)) c.requires.spare c.requires.way (omega (arith, c.requires.fresh)) (omega (arith, c.requires.fresh)) c.requires.fit in
+    record { measured = h.0.measured; inside = h.0.inside; sound = h.0.sound }
 
 pub returns : goal.returns
 returns c =

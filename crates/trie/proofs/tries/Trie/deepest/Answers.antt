@@ -12,6 +12,6 @@ pub loop-level-preserved : goal.loop-level-preserved
 loop-level-preserved c =
     let s = c.args.self.now in
     let i = c.loop-level.invariant in
-    let f = c.in-Some-b.ensures in
-    let d = one_deeper _ _ _ _ (of s) c.args.row.now c.loop-level.c c.in-Some-b.b c.loop-level.level i.0 i.1 i.2 f.0 f.1 f.2 f.3 in
+    let f = c.in_Some-b.ensures in
+    let d = one_deeper _ _ _ _ (of s) c.args.row.now c.loop-level.c c.in_Some-b.b c.loop-level.level i.0 i.1 i.2 f.0 f.1 f.2 f.3 in
     (f.1, d.0, d.1)

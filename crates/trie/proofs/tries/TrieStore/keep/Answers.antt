@@ -38,7 +38,7 @@ returns-then-self c =
         (
           f,
           fresh_row a.values.now a.cells.now a.used a.count (of a) row c.deepest-c.result.0 c.deepest-c.result.1 c.deepest-c.ensures l,
-          omega (arith, a.decreases, c.if-self.true, kept_count a.values.now row a.cells.now a.used a.count (of a)),
+          omega (arith, a.measured, c.if-self.true, kept_count a.values.now row a.cells.now a.used a.count (of a)),
         ),
       );
       still = refl;
@@ -68,11 +68,11 @@ returns c =
       answer = (
         f,
         fresh_row a.values.now a.cells.now a.used a.count (of a) row c.deepest-c.result.0 c.deepest-c.result.1 c.deepest-c.ensures l,
-        omega (arith, a.decreases, c.if-self.false, kept_count a.values.now row a.cells.now a.used a.count (of a)),
+        omega (arith, a.measured, c.if-self.false, kept_count a.values.now row a.cells.now a.used a.count (of a)),
         c.add.ensures.added,
       );
       still = tt;
       values = c.add.ensures.table;
-      space = sym c.add.new.self.measured ∙ c.add.ensures.space ∙ a.decreases;
+      space = sym c.add.new.self.measured ∙ c.add.ensures.space ∙ a.measured;
       lender = c.add.ensures.lender;
     }
