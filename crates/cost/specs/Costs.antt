@@ -1,5 +1,5 @@
 -- A cost kind's own arithmetic, without limit, and its laws.
-use Rattle.std.specs.Prelude.{◌≡◌, ℕ, Bool, true, false, ◌⊎◌, List, [], ◌∷◌}
+use Rattle.std.specs.Prelude.{◌≡◌, ℕ, Bool, false, ◌⊎◌, List, [], ◌∷◌}
 
 pub record Arithmetic : Type 1 where
   pub Value : Type 0

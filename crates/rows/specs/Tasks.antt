@@ -1,5 +1,5 @@
 -- A SAS+ task: how many values each variable has, the state it starts from, the goal, and the moves.
-use Rattle.std.specs.Prelude.{◌≡◌, ℕ, zero, suc, ◌<◌, ◌≤◌, Bool, true, false, List, [], ◌∷◌, length, Some, None, Option}
+use Rattle.std.specs.Prelude.{◌≡◌, ℕ, zero, suc, ◌≤◌, true, List, [], ◌∷◌, length, Some, None, Option}
 use Rattle.rows.specs.Rows.{Row, Move, fits, complete, usable}
 
 pub record Task : Type 0 where

@@ -1,6 +1,5 @@
-use Rattle.std.proofs.Common.{◌≡◌, ◌+◌, Bool, ◌||◌, get_or, drop, sym, ap, ◌∙◌, arith}
+use Rattle.std.proofs.Common.{◌+◌, ◌||◌, drop, sym, ap, ◌∙◌, arith}
 use Rattle.std.proofs.lemmas.List.{drop_all}
-use Rattle.rows.specs.Rows.{hits_at}
 use Rattle.rows.proofs.Regressing.{left, left_more, left_none, left_all}
 use Rattle.rows.proofs.is_regressed.Goals as goal
 

@@ -1,4 +1,3 @@
-use Rattle.std.proofs.Common.{rules}
 use Rattle.rows.proofs.refusals.Refusal.word.Goals as goal
 
 pub returns-in-ShortBuffer : goal.returns-in-ShortBuffer
