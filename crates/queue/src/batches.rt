@@ -7,11 +7,11 @@ use cost::costs::Cost;
 
 // Puts each cost under the number of its place, as far as there is room, and answers how many.
 pub fn put_all<K: Cost, Q: Queue<K>>(q: &mut Q, costs: &[K]) -> usize
-    ensures lent { lent q.new ≡ lent q.old }
-    ensures room { room q.new ≡ room q.old }
-    ensures count { (result ≡ min (length costs.now) (room q.old - length (entries q.old))) × (length (entries q.new) ≡ length (entries q.old) + result) }
-    ensures ordered { ordered q.old → ordered q.new }
-    ensures entries { ordered q.old → IsPermutation (numbered (take result costs.now) 0 ++ entries q.old) (entries q.new) }
+    ensures lent { Q.lent q.new ≡ Q.lent q.old }
+    ensures room { Q.room q.new ≡ Q.room q.old }
+    ensures count { (result ≡ min (length costs.now) (Q.room q.old - length (Q.entries q.old))) × (length (Q.entries q.new) ≡ length (Q.entries q.old) + result) }
+    ensures ordered { Q.ordered q.old → Q.ordered q.new }
+    ensures entries { Q.ordered q.old → IsPermutation (numbered (take result costs.now) 0 ++ Q.entries q.old) (Q.entries q.new) }
 {
     let free = q.capacity() - q.count();
     let n = costs.len().min(free);
@@ -23,12 +23,12 @@ pub fn put_all<K: Cost, Q: Queue<K>>(q: &mut Q, costs: &[K]) -> usize
 
 // Takes entries out, as far as there are places for their numbers, and answers how many.
 pub fn take_all<K: Cost, Q: Queue<K>>(q: &mut Q, numbers: &mut [u16]) -> usize
-    ensures lent { lent q.new ≡ lent q.old }
-    ensures room { room q.new ≡ room q.old }
-    ensures count { (result ≡ min (length (entries q.old)) (length numbers.old)) × (length (entries q.new) + result ≡ length (entries q.old)) }
+    ensures lent { Q.lent q.new ≡ Q.lent q.old }
+    ensures room { Q.room q.new ≡ Q.room q.old }
+    ensures count { (result ≡ min (length (Q.entries q.old)) (length numbers.old)) × (length (Q.entries q.new) + result ≡ length (Q.entries q.old)) }
     ensures rest { drop result numbers.new ≡ drop result numbers.old }
-    ensures ordered { ordered q.old → ordered q.new }
-    ensures order { ordered q.old → Drained K.Cost (entries q.old) (take result numbers.new) (entries q.new) }
+    ensures ordered { Q.ordered q.old → Q.ordered q.new }
+    ensures order { Q.ordered q.old → Drained K.Cost (Q.entries q.old) (take result numbers.new) (Q.entries q.new) }
 {
     let n = q.count().min(numbers.len());
     for i in 0..n {
@@ -42,12 +42,12 @@ pub fn take_all<K: Cost, Q: Queue<K>>(q: &mut Q, numbers: &mut [u16]) -> usize
 
 // The order in which the costs, each under the number of its place, come out of a queue, with what it holds already.
 pub fn in_order<K: Cost, Q: Queue<K>>(q: &mut Q, costs: &[K], numbers: &mut [u16]) -> usize
-    ensures lent { lent q.new ≡ lent q.old }
-    ensures room { room q.new ≡ room q.old }
-    ensures count { (result ≡ min (length (entries q.old) + min (length costs.now) (room q.old - length (entries q.old))) (length numbers.old)) × (length (entries q.new) + result ≡ length (entries q.old) + min (length costs.now) (room q.old - length (entries q.old))) }
+    ensures lent { Q.lent q.new ≡ Q.lent q.old }
+    ensures room { Q.room q.new ≡ Q.room q.old }
+    ensures count { (result ≡ min (length (Q.entries q.old) + min (length costs.now) (Q.room q.old - length (Q.entries q.old))) (length numbers.old)) × (length (Q.entries q.new) + result ≡ length (Q.entries q.old) + min (length costs.now) (Q.room q.old - length (Q.entries q.old))) }
     ensures rest { drop result numbers.new ≡ drop result numbers.old }
-    ensures ordered { ordered q.old → ordered q.new }
-    ensures order { ordered q.old → Drained K.Cost (numbered (take (room q.old - length (entries q.old)) costs.now) 0 ++ entries q.old) (take result numbers.new) (entries q.new) }
+    ensures ordered { Q.ordered q.old → Q.ordered q.new }
+    ensures order { Q.ordered q.old → Drained K.Cost (numbered (take (Q.room q.old - length (Q.entries q.old)) costs.now) 0 ++ Q.entries q.old) (take result numbers.new) (Q.entries q.new) }
 {
     let _ = put_all(q, costs);
     take_all(q, numbers)
