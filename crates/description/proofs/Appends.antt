@@ -1,5 +1,5 @@
 -- Text that is appended piece by piece: what is there and what is left make the whole.
-use Rattle.std.proofs.Common.{◌≡◌, ℕ, List, [], ◌++◌, sym, refl, ap, ◌∙◌, append_assoc, append-nil}
+use Rattle.std.proofs.Common.{◌≡◌, ℕ, List, [], ◌++◌, sym, ap, ◌∙◌, append_assoc, append-nil}
 
 module _ (had rest whole : List ℕ) (all : had ++ rest ≡ whole) where
   pub one_more : (has piece left : List ℕ) → has ≡ had ++ piece → rest ≡ piece ++ left → has ++ left ≡ whole

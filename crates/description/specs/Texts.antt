@@ -1,5 +1,5 @@
 -- The description of a task file, for people: a line for each variable and each move, or why the file is refused.
-use Rattle.std.specs.Prelude.{ℕ, zero, suc, ◌+◌, Bool, true, false, cond, List, [], ◌∷◌, ◌++◌, length, Some, None, Ok, Err, codes, decimal, Option, Result, nat_lt}
+use Rattle.std.specs.Prelude.{ℕ, zero, suc, ◌+◌, cond, List, [], ◌∷◌, ◌++◌, length, Some, None, Ok, Err, codes, decimal, Option, Result, nat_lt}
 use Rattle.rows.specs.Rows.{Row, Move, fixed, regressed}
 use Rattle.rows.specs.Refusals.{number, word}
 use Rattle.task.specs.declared.faults.Fault.{Fault}

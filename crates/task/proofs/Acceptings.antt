@@ -1,13 +1,13 @@
 -- What the reader answers, in the format's own words; and where names lie.
-use Rattle.std.proofs.Common.{◌≡◌, ℕ, zero, suc, ◌+◌, ◌-◌, ◌≤◌, List, [], ◌∷◌, length, take, drop, Some, None, Ok, Err, Option, Result, sym, refl, ap, ◌∙◌, subst, arith, length-drop, length-take, Bor}
+use Rattle.std.proofs.Common.{◌≡◌, ℕ, zero, suc, ◌+◌, ◌-◌, ◌≤◌, List, [], ◌∷◌, length, take, drop, Some, None, Ok, Err, Option, Result, sym, refl, ap, ◌∙◌, subst, arith, length-drop, Bor}
 use Rattle.std.proofs.lemmas.List.{take_all, drop-drop}
 use Rattle.task.specs.declared.faults.Fault.{Fault}
 use Rattle.task.specs.declared.tables.Task.{Task}
-use Rattle.task.specs.Files.{Bodies, place, size, body, bodies, reading, name_in, name_from}
+use Rattle.task.specs.Files.{Bodies, place, size, body, reading, name_in, name_from}
 use Rattle.task.specs.Laws.{Tiles, Sound, Accepts}
 use Rattle.task.specs.Answers.{held, Reads, LooksUp, NamesMove, LiesInFile}
-use Rattle.task.proofs.Readings.{Read, read_parts, read_from, no_err}
-use Rattle.task.proofs.Layouts.{Chain, chain, laid, tiled, bodies_are}
+use Rattle.task.proofs.Readings.{read_parts, read_from, no_err}
+use Rattle.task.proofs.Layouts.{chain, laid, tiled, bodies_are}
 use Rattle.task.proofs.Judgings.{sound_from, judged_if_sound}
 
 pub laid_out : (file : List ℕ) (b : Bodies) → reading file ≡ Ok b → Tiles file b × Sound b

@@ -1,13 +1,13 @@
 -- The bodies pass the reader's tests exactly if they are sound.
-use Rattle.std.proofs.Common.{◌≡◌, ℕ, suc, ◌+◌, ◌*◌, ◌/◌, ◌%◌, ◌<◌, ◌≤◌, Bool, true, false, not, ◌&&◌, ◌||◌, eqb, ltb, leb, List, [], ◌∷◌, length, get_or, sym, refl, ap, ◌∙◌, mul-le-mul, div-add-mod', mul-div_cancel, arith}
+use Rattle.std.proofs.Common.{◌≡◌, ℕ, ◌*◌, ◌/◌, ◌%◌, ◌<◌, ◌≤◌, true, not, ◌&&◌, eqb, ltb, leb, List, length, get_or, sym, ap, ◌∙◌, mul-le-mul, div-add-mod', mul-div_cancel, arith}
 use native.Mathlib.Nat.{mul-mod_left}
 use Rattle.std.proofs.lemmas.Bool.{and_parts, and_from, leb-true, le-leb, ltb-true, lt-ltb, eqb-true, eq-eqb}
 use Rattle.std.proofs.lemmas.Bool.Decides.{nat_tests}
 use Rattle.rows.specs.Rows.{Row, Move, fits, fits_at, complete, complete_at, valued}
 use Rattle.rows.proofs.Alls.{all_at, all_from}
 use Rattle.rows.proofs.Both.{both_length, both_at, both_from}
-use Rattle.task.specs.Files.{Bodies, width, record_size, move_count, counts, move_at, each, rows_fit, positions, prices, names, named}
-use Rattle.task.specs.Laws.{Allowed, Whole, Lawful, Sound, spelled}
+use Rattle.task.specs.Files.{Bodies, width, record_size, move_count, counts, move_at, each, rows_fit, positions, named}
+use Rattle.task.specs.Laws.{Allowed, Whole, Sound}
 use Rattle.task.specs.Layouts.{total}
 use Rattle.task.proofs.Eaches.{each_at, each_from}
 use Rattle.task.proofs.NameLists.{named_short}

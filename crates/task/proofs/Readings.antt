@@ -1,5 +1,5 @@
 -- What is known where the reader accepts.
-use Rattle.std.proofs.Common.{◌≡◌, ℕ, ◌≤◌, Bool, true, false, cond, not, ltb, List, length, Ok, Err, Result, sym, refl, ap, ◌∙◌, arith}
+use Rattle.std.proofs.Common.{◌≡◌, ℕ, ◌≤◌, Bool, true, false, cond, not, ltb, List, length, Ok, Err, Result, refl, ap, ◌∙◌, arith}
 use Rattle.std.proofs.lemmas.Bool.{ltb-false, not-false, le-ltb}
 use Rattle.task.specs.declared.faults.Fault.TheVariants.{Stub, Contents, Count, Position, Price, Name}
 use Rattle.task.specs.Files.{Bodies, bodies, tiles, counts, positions, prices, names, judged, reading}

@@ -6,8 +6,7 @@ use Rattle.std.proofs.lemmas.List.{drop_more}
 use Rattle.task.specs.declared.faults.Fault.{Fault}
 use Rattle.task.specs.declared.tables.Task.{Task}
 use Rattle.task.specs.Answers.{held, Reads}
-use Rattle.task.specs.Files.{Bodies, word, place, size, reading}
-use Rattle.task.specs.Laws.{Tiles}
+use Rattle.task.specs.Files.{Bodies, word, place, size}
 use Rattle.task.specs.Layouts.{coded, parts, layout, Restores}
 use Rattle.task.proofs.Acceptings.{laid_out}
 

@@ -1,20 +1,20 @@
 -- Names as the reader tests them, and as they are spelled.
-use Rattle.std.proofs.Common.{◌≡◌, ℕ, zero, suc, ◌≤◌, Bool, true, false, ◌&&◌, leb, List, [], ◌∷◌, ◌++◌, length, take, drop, sym, refl, ap, ◌∙◌, arith, length-append}
-use Rattle.std.specs.List.{AllByRecursion as All}
+use Rattle.std.proofs.Common.{◌≡◌, ℕ, zero, suc, ◌≤◌, true, false, ◌&&◌, leb, List, [], ◌∷◌, ◌++◌, length, take, drop, sym, refl, ap, ◌∙◌, arith, length-append}
+use Rattle.std.specs.List.{AllByRecursion}
 use Rattle.std.proofs.lemmas.List.{take-append-drop, length-take-le, take_at, drop_at}
 use Rattle.std.proofs.lemmas.Bool.{and_parts, and_from, leb-true, le-leb, both_ways}
 use Rattle.rows.specs.Rows.{all}
 use Rattle.task.specs.Files.{named, begins, printable}
 use Rattle.task.specs.Laws.{Spelling, spelled}
 
-all_printable : (cs : List ℕ) → all printable cs ≡ true → All (λ c. (33 ≤ c) × (c ≤ 126)) cs
+all_printable : (cs : List ℕ) → all printable cs ≡ true → AllByRecursion (λ c. (33 ≤ c) × (c ≤ 126)) cs
 all_printable [] h = tt
 all_printable (c ∷ cs) h =
     let p = and_parts (printable c) (all printable cs) h in
     let q = and_parts (leb 33 c) (leb c 126) p.0 in
     ((leb-true 33 c q.0, leb-true c 126 q.1), all_printable cs p.1)
 
-printable_all : (cs : List ℕ) → All (λ c. (33 ≤ c) × (c ≤ 126)) cs → all printable cs ≡ true
+printable_all : (cs : List ℕ) → AllByRecursion (λ c. (33 ≤ c) × (c ≤ 126)) cs → all printable cs ≡ true
 printable_all [] h = refl
 printable_all (c ∷ cs) h =
     and_from (printable c) (all printable cs) (and_from (leb 33 c) (leb c 126) (le-leb 33 c h.0.0) (le-leb c 126 h.0.1)) (printable_all cs h.1)
@@ -24,7 +24,7 @@ pub record Spelled (m : ℕ) (bs : List ℕ) : Type 0 where
   pub list : List (List ℕ)
   pub is : bs ≡ spelled list
   pub count : length list ≡ m
-  pub each : All Spelling list
+  pub each : AllByRecursion Spelling list
 
 pub spelled_from : (m : ℕ) (bs : List ℕ) → named m bs ≡ true → Spelled m bs
 spelled_from zero [] h = record { list = []; is = refl; count = refl; each = tt }
@@ -51,7 +51,7 @@ spelled_from (suc m) (n ∷ rest) h =
       );
     }
 
-pub named_from : (ns : List (List ℕ)) → All Spelling ns → named (length ns) (spelled ns) ≡ true
+pub named_from : (ns : List (List ℕ)) → AllByRecursion Spelling ns → named (length ns) (spelled ns) ≡ true
 named_from [] h = refl
 named_from (n ∷ ns) h =
     let s = h.0 in

@@ -1,7 +1,7 @@
 -- What writing answers where the bodies are sound; and both round trips.
-use Rattle.std.proofs.Common.{◌≡◌, ℕ, ◌+◌, ◌*◌, ◌/◌, ◌%◌, ◌<◌, ◌≤◌, Bool, true, false, cond, ltb, List, [], ◌∷◌, ◌++◌, length, get_or, take, drop, Ok, Err, Result, sym, refl, ap, ◌∙◌, mod-eq_of_lt, div-add-mod', arith, length-append}
+use Rattle.std.proofs.Common.{◌≡◌, ℕ, ◌+◌, ◌*◌, ◌/◌, ◌%◌, ◌<◌, ◌≤◌, Bool, true, false, cond, ltb, List, ◌++◌, length, take, drop, Ok, Err, Result, sym, refl, ap, ◌∙◌, mod-eq_of_lt, div-add-mod', arith, length-append}
 use native.Mathlib.Nat.{div-div-eq-div-mul}
-use Rattle.std.proofs.lemmas.List.{take_at, drop_at, take-append-drop, drop-drop, drop_more}
+use Rattle.std.proofs.lemmas.List.{take_at, drop_at}
 use Rattle.std.proofs.lemmas.Nat.{div_below}
 use Rattle.std.proofs.lemmas.Bool.{le-ltb}
 use Rattle.rows.specs.declared.refusals.Refusal.{Refusal}
@@ -9,12 +9,11 @@ use Rattle.rows.specs.declared.refusals.Refusal.TheVariants.{ShortBuffer}
 use Rattle.task.specs.declared.faults.Fault.{Fault}
 use Rattle.task.specs.Answers.{refusal_of}
 use Rattle.rows.specs.Calls.{over}
-use Rattle.task.specs.Files.{Bodies, word, place, size, bodies, judged, reading}
+use Rattle.task.specs.Files.{Bodies, judged, reading}
 use Rattle.task.specs.Laws.{Tiles}
-use Rattle.task.specs.Layouts.{coded, entry, entries, contents, parts, layout, total, Writing, laid, laid_if, writing, ReadsBack}
-use Rattle.task.proofs.Readings.{Judged, read_parts, read_from, judged_parts, no_err}
+use Rattle.task.specs.Layouts.{contents, parts, layout, total, Writing, laid, laid_if, writing, ReadsBack}
+use Rattle.task.proofs.Readings.{Judged, read_from, judged_parts, no_err}
 use Rattle.task.proofs.Layouts.{tiled, bodies_are}
-use Rattle.task.proofs.Acceptings.{laid_out}
 use Rattle.task.proofs.Judgings.{not_long}
 
 pub wrote : (b : Bodies) (out new : List ℕ) (n : ℕ) → judged b ≡ Ok b → total b ≤ length out → n ≡ total b → new ≡ over (layout b) out

@@ -4,7 +4,7 @@
 -- numbers with the low byte first. The bodies follow in order and without gaps: the values table, the start, the goal, the moves
 -- and their names. A move is a record of a price (32 bits, low byte first), a condition row and an effect row. A name is a length
 -- byte and that many bytes.
-use Rattle.std.specs.Prelude.{ℕ, zero, suc, ◌+◌, ◌*◌, ◌/◌, ◌%◌, Bool, true, false, cond, not, ◌&&◌, leb, List, [], ◌∷◌, map, length, take, drop, Some, None, Ok, Err, Option, Result, ◌==◌, nat_le, nat_lt, slice_index}
+use Rattle.std.specs.Prelude.{ℕ, zero, suc, ◌+◌, ◌*◌, ◌/◌, ◌%◌, Bool, true, false, cond, not, ◌&&◌, List, [], ◌∷◌, map, length, take, drop, Some, None, Ok, Err, Option, Result, ◌==◌, nat_le, nat_lt, slice_index}
 use Rattle.std.specs.List.{range_with_len}
 use Rattle.rows.specs.Rows.{Row, Move, all, fits, complete, valued}
 use Rattle.rows.specs.Tasks.{Task}
@@ -89,7 +89,7 @@ positions b =
 
 -- no price is over 1,000,000,000
 abbrev pub prices : Bodies → Bool
-prices b = each (λ k. leb (move_at (width b) b.moves k).price 1000000000) (move_count b)
+prices b = each (λ k. nat_le (move_at (width b) b.moves k).price 1000000000) (move_count b)
 
 -- bytes that a name may have: 33 to 126
 abbrev pub printable : ℕ → Bool

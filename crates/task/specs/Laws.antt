@@ -1,6 +1,6 @@
 -- What an accepted task file is, in the format's own words: the layout of five sound bodies.
 use Rattle.std.specs.Prelude.{◌≡◌, ℕ, ◌+◌, ◌*◌, ◌<◌, ◌≤◌, List, [], ◌∷◌, ◌++◌, length, drop, Ok, Err, Result, ◌≢◌, slice_index}
-use Rattle.std.specs.List.{AllByRecursion as All}
+use Rattle.std.specs.List.{AllByRecursion}
 use Rattle.rows.specs.Rows.{Row, Move}
 use Rattle.task.specs.declared.faults.Fault.{Fault}
 use Rattle.task.specs.declared.tables.Task.{Task}
@@ -41,7 +41,7 @@ pub record Lawful (values : List ℕ) (m : Move) : Type 0 where
 pub record Spelling (name : List ℕ) : Type 0 where
   pub some : 1 ≤ length name
   pub short : length name ≤ 40
-  pub printable : All (λ c. (33 ≤ c) × (c ≤ 126)) name
+  pub printable : AllByRecursion (λ c. (33 ≤ c) × (c ≤ 126)) name
 
 -- names as they lie in the file, each after its length
 abbrev pub spelled : List (List ℕ) → List ℕ
@@ -62,7 +62,7 @@ pub record Sound (b : Bodies) : Type 0 where
   pub spellings : List (List ℕ)
   pub named : b.names ≡ spelled spellings
   pub each_named : length spellings ≡ count
-  pub spelling : All Spelling spellings
+  pub spelling : AllByRecursion Spelling spellings
 
 -- a file is accepted exactly if it is the layout of five sound bodies, which are then the ones that are handed out
 abbrev pub Accepts : List ℕ → Result Task Fault → Type 0

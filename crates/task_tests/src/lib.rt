@@ -104,7 +104,7 @@ mod tests {
         let file = sample(rt.alloc())?;
         match name(file.as_slice(), 3) {
             Ok(Some((text, place))) => {
-                assert!(rt; text == b"carry");
+                assert!(rt; text == b"carry".as_slice());
                 assert_eq!(rt; place, 92);
             }
             _ => return Err(Fail::new("no name")),

@@ -1,7 +1,7 @@
-use Rattle.std.proofs.Common.{◌≡◌, sym, ap, ◌∙◌}
+use Rattle.std.proofs.Common.{ap, ◌∙◌}
 use Rattle.rows.specs.Refusals.{number, word}
 use Rattle.std.proofs.lemmas.Result.{IfOk-weaker}
-use Rattle.description.specs.Texts.{refused_text, refused_line}
+use Rattle.description.specs.Texts.{refused_text}
 use Rattle.description.proofs.refused_line.Goals as goal
 
 pub returns : goal.returns

@@ -9,7 +9,7 @@ use Rattle.description.proofs.lines.describe.Goals as goal
 pub invariant_of-task_text : goal.invariant_of-task_text
 invariant_of-task_text c =
     let j = (read_parts c.args.input.now (held c.in-Ok.task) c.in-Ok.ensures.reading).judged in
-    (j.counted, (j.positioned, (j.priced, (j.named, tt))))
+    record { counted = j.counted; positioned = j.positioned; priced = j.priced; named = j.named }
 
 pub returns-in-Err : goal.returns-in-Err
 returns-in-Err c =

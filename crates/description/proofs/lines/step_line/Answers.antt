@@ -1,7 +1,7 @@
-use Rattle.std.proofs.Common.{◌≡◌, length, sym, ap, ◌∙◌}
+use Rattle.std.proofs.Common.{length, sym, ap, ◌∙◌}
 use Rattle.rows.specs.Rows.{Move}
 use Rattle.task.specs.Files.{move_count}
-use Rattle.task.specs.Answers.{held, move_of}
+use Rattle.task.specs.Answers.{held}
 use Rattle.task.proofs.Judgings.{counted, level}
 use Rattle.task.proofs.NameLists.{name_printable, name_there}
 use Rattle.description.proofs.lines.step_line.Goals as goal

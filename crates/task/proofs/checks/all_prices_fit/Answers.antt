@@ -1,4 +1,4 @@
-use Rattle.std.proofs.Common.{ℕ, ◌/◌, Bool, leb, length, sym, ◌∙◌, arith}
+use Rattle.std.proofs.Common.{◌/◌, nat_le, length, sym, arith}
 use Rattle.std.proofs.lemmas.Bool.{lt-leb}
 use Rattle.task.specs.Files.{move_at, record_size}
 use Rattle.task.proofs.Eaches.{each_from, each_not, record_within}
@@ -10,13 +10,13 @@ overflow_mul-k c = omega (arith, record_within c.loop-k.k (length c.args.moves.n
 pub word-requires : goal.word-requires
 word-requires c = omega (arith, record_within c.loop-k.k (length c.args.moves.now) (record_size c.args.width) (omega arith))
 
-pub returns-then-word-gt-HIGHEST-PRICE : goal.returns-then-word-gt-HIGHEST-PRICE
-returns-then-word-gt-HIGHEST-PRICE c =
-    sym (each_not (λ k. leb (move_at c.args.width c.args.moves.now k).price 1000000000)
+pub returns-then-word-gt-HIGHEST_PRICE : goal.returns-then-word-gt-HIGHEST_PRICE
+returns-then-word-gt-HIGHEST_PRICE c =
+    sym (each_not (λ k. nat_le (move_at c.args.width c.args.moves.now k).price 1000000000)
     (length c.args.moves.now / record_size c.args.width) c.loop-k.k (omega arith) (lt-leb _ 1000000000 (omega (arith, c.word.ensures))))
 
 pub returns : goal.returns
 returns c =
-    sym (each_from (λ k. leb (move_at c.args.width c.args.moves.now k).price 1000000000)
+    sym (each_from (λ k. nat_le (move_at c.args.width c.args.moves.now k).price 1000000000)
     (length c.args.moves.now / record_size c.args.width)
     (λ k h. c.loop-k.invariant k (omega arith)))

@@ -1,4 +1,4 @@
-use Rattle.std.proofs.Common.{ℕ, ◌/◌, Bool, length, sym, ◌∙◌, arith, below_more}
+use Rattle.std.proofs.Common.{◌/◌, length, sym, ◌∙◌, arith, below_more}
 use Rattle.task.specs.Files.{rows_fit, move_at, record_size}
 use Rattle.task.proofs.Eaches.{each_from, each_not, record_within}
 use Rattle.task.proofs.checks.all_rows_fit.Goals as goal

@@ -6,5 +6,5 @@ pub returns : goal.returns
 returns c = record {
   reading = c.parse.ensures;
   accepted = accepts c.args.file.now c.parse.result c.parse.ensures;
-  restored = restores c.args.file.now c.type-inv.file c.parse.result c.parse.ensures;
+  restored = restores c.args.file.now c.type_inv.file c.parse.result c.parse.ensures;
 }
