@@ -7,7 +7,7 @@ use Rattle.search.proofs.opens.open.Goals as goal
 pub invariant_of-open_on : goal.invariant_of-open_on
 invariant_of-open_on g c =
     let j = (read_parts c.args.file.now (held c.in-Ok.task) c.in-Ok.ensures.reading).judged in
-    (j.counted, (j.positioned, (j.priced, (j.named, tt))))
+    record { counted = j.counted; positioned = j.positioned; priced = j.priced; named = j.named }
 
 pub returns-in-Err : goal.returns-in-Err
 returns-in-Err g c = (refl, opens_bad g.K.Cost g.S.Store g.Q.Queue c.args.file.now _ c.args.t.now c.in-Err.ensures.reading)

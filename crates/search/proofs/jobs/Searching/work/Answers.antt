@@ -7,7 +7,7 @@ use Rattle.search.proofs.jobs.Searching.work.Goals as goal
 pub invariant_of-work_suited : goal.invariant_of-work_suited
 invariant_of-work_suited g c =
     let j = (read_parts c.args.file.now (held c.in-Ok.task) c.in-Ok.ensures.reading).judged in
-    (j.counted, (j.positioned, (j.priced, (j.named, tt))))
+    record { counted = j.counted; positioned = j.positioned; priced = j.priced; named = j.named }
 
 pub returns-in-Ok : goal.returns-in-Ok
 returns-in-Ok g c = works_on g.K.Cost g.S.Store g.Q.Queue c.args.file.now (held c.in-Ok.task) c.args.self c.args.budget c.args.t.now c.work_suited.new.t c.work_suited.result (omega (arith, c.if-budget-eq0.false)) c.in-Ok.ensures.reading c.work_suited.ensures
