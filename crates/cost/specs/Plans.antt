@@ -1,12 +1,12 @@
 -- What plans cost, by the prices of their moves.
 use Rattle.std.specs.Prelude.{◌≡◌, ℕ, ◌<◌, ◌≤◌, ◌⊎◌, List, [], length, slice_index}
-use Rattle.std.specs.List.{ContainsAt as Has, AllByRecursion as All}
+use Rattle.std.specs.List.{ContainsAt as Has, AllByRecursion}
 use Rattle.rows.specs.declared.refusals.Refusal.{Refusal}
 use Rattle.rows.specs.declared.refusals.Refusal.TheVariants.{Price, Long}
 
 -- m is the largest of the numbers, or 0 where there is none
 pub record Largest (ps : List ℕ) (m : ℕ) : Type 0 where
-  pub above : All (λ p. p ≤ m) ps
+  pub above : AllByRecursion (λ p. p ≤ m) ps
   pub there : Has ps m ⊎ ((ps ≡ []) × (m ≡ 0))
 
 -- no price is over the highest

@@ -1,5 +1,5 @@
 -- What a job's history leaves: tables that hold a run which goes on, or has ended in the same way.
-use Rattle.std.proofs.Common.{◌≡◌, ℕ, ◌+◌, ◌<◌, List, length, None, Ok, sym, ap, ◌∙◌, subst, inl, inr, arith}
+use Rattle.std.proofs.Common.{◌≡◌, ℕ, ◌+◌, ◌<◌, List, length, None, Ok, sym, ap, ◌∙◌, subst, inl, inr}
 use Rattle.task.specs.Files.{Bodies, width, move_count, reading, task_of}
 use Rattle.cost.specs.declared.costs.Cost as cost
 use Rattle.store.specs.declared.stores.Store as store

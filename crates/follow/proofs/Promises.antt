@@ -17,9 +17,6 @@ use Rattle.steps.specs.declared.tables.Tables.{Tables}
 use Rattle.steps.specs.Memories.{Memory, memory}
 use Rattle.steps.specs.Holdings.{Held, Ample}
 use Rattle.search.specs.declared.jobs.Searching.{Searching}
-use Rattle.search.specs.declared.jobs.Found.{Found}
-use Rattle.search.specs.declared.jobs.NoPlan.{NoPlan}
-use Rattle.search.specs.declared.jobs.OutOfSpace.{OutOfSpace}
 use Rattle.search.specs.declared.jobs.Worked.{Worked}
 use Rattle.search.specs.declared.jobs.Worked.TheVariants as worked
 use Rattle.search.specs.declared.jobs.Work.TheVariants as work

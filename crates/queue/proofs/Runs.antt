@@ -1,7 +1,7 @@
 -- Entries that are put, or taken, one after the other.
 use Rattle.std.proofs.Common.{◌≡◌, ℕ, suc, ◌+◌, ◌<◌, ◌≤◌, min, false, List, [], ◌∷◌, ◌++◌, length, get_or, take, drop, set, Ok, Err, Result, sym, refl, ap, ◌∙◌, subst, ⊎_elim, append_assoc, add-zero, arith, MatchResult}
 use Rattle.std.specs.List.Sorted.{IsPermutation}
-use Rattle.std.specs.List.{AllByRecursion as All}
+use Rattle.std.specs.List.{AllByRecursion}
 use Rattle.std.proofs.ByRecursion.{All-push, All-weaker, all-has, all_has_itself, all_shuffled}
 use Rattle.std.proofs.lemmas.List.{take_more, length-take-le, map_push, drop-drop, drop-set-lt, take_all}
 use Rattle.std.proofs.lemmas.Bool.{cases_lt}
@@ -57,7 +57,7 @@ pub rest_more : {X : Type 0} (xs ys : List X) (i : ℕ) (x : X) → drop i ys �
 rest_more xs ys i x e = drop-set-lt (i + 1) ys i x (omega arith) ∙ sym (drop-drop 1 i ys) ∙ ap (drop 1) e ∙ drop-drop 1 i xs
 
 module _ {K : Type 0} (C : cost.Ghosts K) where
-  in_order_push : (es : List (Entry K)) (x : Entry K) → InOrder C es → All (λ e. goes C x e ≡ false) es → InOrder C (es ++ x ∷ [])
+  in_order_push : (es : List (Entry K)) (x : Entry K) → InOrder C es → AllByRecursion (λ e. goes C x e ≡ false) es → InOrder C (es ++ x ∷ [])
   in_order_push [] x o a = (tt, tt)
   in_order_push (e ∷ es) x (h, o) (b, a) = (All-push (λ d. goes C d e ≡ false) es x h b, in_order_push es x o a)
 
@@ -65,7 +65,7 @@ module _ {K : Type 0} (C : cost.Ghosts K) where
   drained_none xs = record { out = []; numbers = refl; order = tt; later = tt; same = IsPermutation-refl xs }
 
   -- of those that are left once x is gone, too
-  less : (P : Entry K → Type 0) (x : Entry K) (ys zs : List (Entry K)) → IsPermutation (x ∷ zs) ys → All P ys → All P zs
+  less : (P : Entry K → Type 0) (x : Entry K) (ys zs : List (Entry K)) → IsPermutation (x ∷ zs) ys → AllByRecursion P ys → AllByRecursion P zs
   less P x ys zs sh a = (all_shuffled P ys (x ∷ zs) (IsPermutation-sym (x ∷ zs) ys sh) a).1
 
   pub drained_more : (xs : List (Entry K)) (ns : List ℕ) (ys zs : List (Entry K)) (x : Entry K) → Drained C xs ns ys → Least C ys x → Added zs x ys → Drained C xs (ns ++ x.number ∷ []) zs
@@ -75,7 +75,7 @@ module _ {K : Type 0} (C : cost.Ghosts K) where
         out = out ++ x ∷ [];
         numbers = ap (λ ms. ms ++ x.number ∷ []) d.numbers ∙ sym (map_push (λ e. e.number) out x);
         order = in_order_push out x d.order (All-weaker _ _ (λ e a. all-has (λ y. goes C y e ≡ false) ys x a l.there) out d.later);
-        later = All-push (λ e. All (λ y. goes C y e ≡ false) zs) out x
+        later = All-push (λ e. AllByRecursion (λ y. goes C y e ≡ false) zs) out x
             (All-weaker _ _ (λ e a. less (λ y. goes C y e ≡ false) x ys zs add a) out d.later)
             (less (λ y. goes C y x ≡ false) x ys zs add (All-weaker _ _ (λ y h. l.least y h) ys (all_has_itself ys)));
         same = subst (λ (l : List (Entry K)). IsPermutation l xs) (sym (append_assoc out (x ∷ []) zs)) (IsPermutation-trans _ _ _ (after out (x ∷ zs) ys add) d.same);

@@ -1,5 +1,5 @@
 -- Steps of the work, one after the other.
-use Rattle.std.proofs.Common.{◌≡◌, ℕ, ◌+◌, ◌<◌, ◌≤◌, true, false, Ok, Err, sym, refl, ap, ◌∙◌, subst, arith}
+use Rattle.std.proofs.Common.{◌≡◌, ℕ, ◌+◌, ◌<◌, false, Ok, Err, sym, refl, ◌∙◌, subst, arith}
 use Rattle.rows.specs.Tasks.{Task}
 use Rattle.cost.specs.declared.costs.Cost as cost
 use Rattle.store.specs.declared.stores.Store as store
@@ -7,7 +7,7 @@ use Rattle.queue.specs.declared.queues.Queue as queue
 use Rattle.uniform.specs.Steps.{Outcome, going, found, no_plan, out_of_space}
 use Rattle.steps.specs.declared.tables.Tables.{Tables}
 use Rattle.steps.specs.Memories.{Memory, memory}
-use Rattle.steps.specs.Turns.{Standing, Intact, Turn, Known, Goes, still, onward, Ends}
+use Rattle.steps.specs.Turns.{Standing, Intact, Turn, Goes, still, onward, Ends}
 use Rattle.search.specs.declared.jobs.Searching.{Searching}
 use Rattle.search.specs.declared.jobs.Found.{Found}
 use Rattle.search.specs.declared.jobs.NoPlan.{NoPlan}
@@ -15,7 +15,7 @@ use Rattle.search.specs.declared.jobs.OutOfSpace.{OutOfSpace}
 use Rattle.search.specs.declared.jobs.Worked.{Worked}
 use Rattle.search.specs.declared.jobs.Worked.TheVariants as worked
 use Rattle.search.specs.declared.jobs.Work.TheVariants as work
-use Rattle.search.specs.Works.{standing, Same, SameFound, Advanced, WorksOn}
+use Rattle.search.specs.Works.{standing, Same, Advanced, WorksOn}
 
 module _ {K S Q : Type 0} (C : cost.Ghosts K) (st : store.Ghosts S) (qu : queue.Ghosts Q K) (task : Task) (from : Searching) (entry : Tables K S Q) where
   -- so many steps of the job that began have led here

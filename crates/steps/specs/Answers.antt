@@ -2,15 +2,14 @@
 --
 -- Two things are said of each: what holds of the counts whatever the order inside the queue is, and, where the queue is in
 -- order and the tables are ready for it, which relation holds between the tables before and after.
-use Rattle.std.specs.Prelude.{◌≡◌, ℕ, ◌+◌, ◌*◌, ◌<◌, ◌≤◌, true, List, [], length, Some, None, Ok, Err, Option, Result}
+use Rattle.std.specs.Prelude.{◌≡◌, ℕ, ◌+◌, ◌*◌, ◌<◌, ◌≤◌, [], length, Some, None, Ok, Err, Option, Result}
 use Rattle.rows.specs.declared.refusals.Refusal.{Refusal}
-use Rattle.rows.specs.Rows.{fits}
 use Rattle.rows.specs.Tasks.{Task}
 use Rattle.cost.specs.declared.costs.Cost as cost
 use Rattle.store.specs.declared.stores.Store as store
 use Rattle.queue.specs.declared.queues.Queue as queue
 use Rattle.queue.specs.Orders.{Names}
-use Rattle.uniform.specs.Steps.{Outcome, skipped, expanded, found, no_plan, out_of_space}
+use Rattle.uniform.specs.Steps.{Outcome, skipped, expanded, found, out_of_space}
 use Rattle.steps.specs.declared.numbers.Progress.{Progress}
 use Rattle.steps.specs.declared.outcomes.Expansion.{Expansion}
 use Rattle.steps.specs.declared.outcomes.Expansion.TheVariants as expansion
@@ -18,9 +17,8 @@ use Rattle.steps.specs.declared.outcomes.Look.{Look}
 use Rattle.steps.specs.declared.outcomes.Look.TheVariants as seen
 use Rattle.steps.specs.declared.outcomes.Visited.{Visited}
 use Rattle.steps.specs.declared.outcomes.Visited.TheVariants as visited
-use Rattle.steps.specs.declared.tables.Record.{Record}
 use Rattle.steps.specs.declared.tables.Tables.{Tables}
-use Rattle.steps.specs.Memories.{Memory, memory, At, width, row_at}
+use Rattle.steps.specs.Memories.{Memory, memory, width}
 use Rattle.steps.specs.Steps.{Sound, One, Crowded, Upto, Visit, Step, Sized, Whole}
 
 module _ {K : Type 0} (C : cost.Ghosts K) (task : Task) (cap : ℕ) where

@@ -1,5 +1,5 @@
-use Rattle.std.proofs.Common.{◌≡◌, ℕ, ◌+◌, ◌<◌, ◌≤◌, true, false, List, [], ◌∷◌, ◌++◌, sym, refl, ap, ◌∙◌, subst, arith}
-use Rattle.rows.specs.Rows.{Row, covers, fits}
+use Rattle.std.proofs.Common.{[], ◌∷◌, ◌++◌, sym, refl, ap, ◌∙◌, subst, arith}
+use Rattle.rows.specs.Rows.{covers}
 use Rattle.store.specs.Stores.{CoverAt, Uncovered}
 use Rattle.store.proofs.Known.{only_full, not_held}
 use Rattle.task.specs.Answers.{held}
