@@ -16,8 +16,8 @@ use Rattle.uniform.specs.Runs as runs
 use Rattle.uniform.specs.Steps.{Outcome}
 use Rattle.uniform.specs.Steps as run
 use Rattle.uniform.specs.Promises.{Orderly}
-use Rattle.uniform.specs.Waits.{in_without}
-use Rattle.uniform.specs.Goods.{runs_orderly}
+use Rattle.uniform.proofs.Waits.{in_without}
+use Rattle.uniform.proofs.Goods.{runs_orderly}
 use Rattle.steps.specs.Memories.{Memory, width, row_at}
 use Rattle.steps.specs.Steps.{One, unmoved, covered, stores, Crowded, Upto, none, more, Kept, Taken, Visit, skips, finds, expands, crowds, Step, ends, takes}
 use Rattle.steps.specs.Steps as steps

@@ -10,8 +10,8 @@ use Rattle.planning.proofs.Regressions.{regression_lawful, best_cheapest}
 use Rattle.uniform.specs.Runs.{Run}
 use Rattle.uniform.specs.Steps.{Outcome, found, no_plan, out_of_space, Ends}
 use Rattle.uniform.specs.Promises as uniform
-use Rattle.uniform.specs.Goods.{found_cheapest, no_plan_none, few_nodes}
-use Rattle.uniform.specs.Endings.{ends_by}
+use Rattle.uniform.proofs.Goods.{found_cheapest, no_plan_none, few_nodes}
+use Rattle.uniform.proofs.Endings.{ends_by}
 use Rattle.uniform.proofs.Alikes.{go_alike}
 use Rattle.steps.specs.declared.tables.Tables.{Tables}
 use Rattle.steps.specs.Memories.{Memory, memory}

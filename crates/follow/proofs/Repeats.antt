@@ -8,7 +8,7 @@ use Rattle.queue.specs.declared.queues.Queue as queue
 use Rattle.planning.specs.Regressions.{regression}
 use Rattle.uniform.specs.Runs.{Reads}
 use Rattle.uniform.specs.Steps.{Outcome, skipped, expanded, found, no_plan, out_of_space}
-use Rattle.uniform.specs.Goods.{found_cheapest}
+use Rattle.uniform.proofs.Goods.{found_cheapest}
 use Rattle.steps.specs.declared.tables.Tables.{Tables}
 use Rattle.steps.specs.Memories.{Memory}
 use Rattle.search.specs.declared.jobs.Found.{Found}

@@ -9,7 +9,7 @@ use Rattle.planning.proofs.Lists.{some_inj, none_some}
 use Rattle.uniform.specs.Runs.{Node, Run, CoverAt, Uncovered, Least, taken, keeping, child, without}
 use Rattle.uniform.specs.Steps.{Outcome, found, out_of_space, going, One, unmoved, covered, stored, Upto, none, more, Crowded, Step, ends, skips, finds, expands, crowds, After, opening, onward, Ends}
 use Rattle.uniform.specs.Promises.{Alike, GoAlike}
-use Rattle.uniform.specs.Endings.{ends_by}
+use Rattle.uniform.proofs.Endings.{ends_by}
 
 module _ (a : Arithmetic) (p : Space) where
   -- a covered row is not an uncovered one

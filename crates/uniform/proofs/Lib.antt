@@ -1,1 +1,10 @@
+pub mod Waits
+pub mod Reach
+pub mod Fronts
+pub mod Chains
+pub mod Tallies
+pub mod Goods
+pub mod Computed
+pub mod Endings
 pub mod Alikes
+pub mod Lines

@@ -3,12 +3,4 @@ pub mod Steps
 pub mod Promises
 pub mod Tellings
 pub mod Samples
-pub mod Lines
-pub mod Computed
-pub mod Reach
-pub mod Endings
-pub mod Goods
-pub mod Fronts
-pub mod Waits
-pub mod Chains
-pub mod Tallies
+pub mod Acceptances

@@ -4,7 +4,7 @@ ghost use Rattle.planning.specs.Regressions.{regression};
 ghost use Rattle.planning.specs.Samples.{sample};
 ghost use Rattle.uniform.specs.Samples.{table, SampleRuns};
 ghost use Rattle.planning.proofs.Regressions.{regression_lawful};
-ghost use Rattle.uniform.specs.Lines.{accepted};
+ghost use Rattle.uniform.specs.Acceptances.{accepted};
 
 use crate::settings::Setting;
 

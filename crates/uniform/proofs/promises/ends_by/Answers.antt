@@ -1,4 +1,4 @@
-use Rattle.uniform.specs.Endings.{ends_by}
+use Rattle.uniform.proofs.Endings.{ends_by}
 use Rattle.uniform.proofs.promises.ends_by.Goals as goal
 
 pub returns : goal.returns

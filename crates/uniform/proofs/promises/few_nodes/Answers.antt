@@ -1,4 +1,4 @@
-use Rattle.uniform.specs.Goods.{few_nodes, runs_orderly}
+use Rattle.uniform.proofs.Goods.{few_nodes, runs_orderly}
 use Rattle.uniform.proofs.promises.few_nodes.Goals as goal
 
 pub returns : goal.returns

@@ -1,4 +1,4 @@
-use Rattle.uniform.specs.Goods.{found_cheapest}
+use Rattle.uniform.proofs.Goods.{found_cheapest}
 use Rattle.uniform.proofs.promises.found_is_cheapest.Goals as goal
 
 pub returns : goal.returns

@@ -1,4 +1,4 @@
-use Rattle.uniform.specs.Goods.{joins_few}
+use Rattle.uniform.proofs.Goods.{joins_few}
 use Rattle.uniform.proofs.promises.joins_few.Goals as goal
 
 pub returns : goal.returns

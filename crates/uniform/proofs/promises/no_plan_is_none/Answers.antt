@@ -1,4 +1,4 @@
-use Rattle.uniform.specs.Goods.{no_plan_none}
+use Rattle.uniform.proofs.Goods.{no_plan_none}
 use Rattle.uniform.proofs.promises.no_plan_is_none.Goals as goal
 
 pub returns : goal.returns

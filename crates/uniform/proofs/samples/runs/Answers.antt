@@ -1,4 +1,4 @@
-use Rattle.uniform.specs.Lines.{sample_runs}
+use Rattle.uniform.proofs.Lines.{sample_runs}
 use Rattle.uniform.proofs.samples.runs.Goals as goal
 
 pub returns : goal.returns

@@ -8,7 +8,7 @@ use Rattle.planning.proofs.Lists.{in_nth, in_push, distinct_push}
 use Rattle.uniform.specs.Runs.{Node, Run, opened, Uncovered, Least, taken, keeping, child}
 use Rattle.uniform.specs.Steps.{One, unmoved, covered, stored, Upto, none, more}
 use Rattle.uniform.specs.Promises.{most}
-use Rattle.uniform.specs.Waits.{length_without}
+use Rattle.uniform.proofs.Waits.{length_without}
 
 module _ (a : Arithmetic) (p : Space) (law : Lawful p) where
   -- after i steps: each step took one node, each expansion stored at most one for each move

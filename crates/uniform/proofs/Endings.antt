@@ -7,8 +7,8 @@ use Rattle.planning.specs.Spaces.{Space, Lawful}
 use Rattle.uniform.specs.Runs.{Run, opened}
 use Rattle.uniform.specs.Steps.{Outcome, skipped, going, Step, After, opening, onward, Ends}
 use Rattle.uniform.specs.Promises.{EndsBy}
-use Rattle.uniform.specs.Goods.{after_good}
-use Rattle.uniform.specs.Computed.{stepped, stepped_is}
+use Rattle.uniform.proofs.Goods.{after_good}
+use Rattle.uniform.proofs.Computed.{stepped, stepped_is}
 
 module _ (a : Arithmetic) (p : Space) (cap : ℕ) where
   pub record Ran : Type 0 where

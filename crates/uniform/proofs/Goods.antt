@@ -8,9 +8,9 @@ use Rattle.planning.proofs.Lists.{nth_below}
 use Rattle.uniform.specs.Runs.{Node, Run}
 use Rattle.uniform.specs.Steps.{Outcome, skipped, expanded, found, no_plan, out_of_space, going, Step, ends, skips, finds, expands, crowds, After, opening, onward, Ends}
 use Rattle.uniform.specs.Promises.{most, ReadsBest, FoundIsCheapest, NoPlanIsNone, RunsAreOrderly, FewNodes, JoinsFew}
-use Rattle.uniform.specs.Fronts.{Front, front_opened, front_skip, front_keep, front_spread, mid_upto, least_first, none_missed}
-use Rattle.uniform.specs.Chains.{Chains, chains_opened, chains_upto, reads_length, reads_unique}
-use Rattle.uniform.specs.Tallies.{Tally, tally_few, tally_skip, tally_spread, tally_crowd, tally_opened}
+use Rattle.uniform.proofs.Fronts.{Front, front_opened, front_skip, front_keep, front_spread, mid_upto, least_first, none_missed}
+use Rattle.uniform.proofs.Chains.{Chains, chains_opened, chains_upto, reads_length, reads_unique}
+use Rattle.uniform.proofs.Tallies.{Tally, tally_few, tally_skip, tally_spread, tally_crowd, tally_opened}
 
 module _ (a : Arithmetic) (p : Space) (law : Lawful p) where
   pub record Good (cap i : ℕ) (s : Run a p) : Type 0 where

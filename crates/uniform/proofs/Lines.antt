@@ -1,9 +1,8 @@
 -- The sample line's runs, computed.
-use Rattle.std.specs.Prelude.{◌≡◌, ℕ, zero, suc, ◌<◌, Bool, true, false, ◌&&◌, List, [], ◌∷◌, length, Some, None, Option, ◌==◌, nat_le, nat_lt, refl}
+use Rattle.std.specs.Prelude.{◌≡◌, ℕ, zero, suc, ◌<◌, Bool, true, false, ◌&&◌, List, [], ◌∷◌, length, Some, None, Option, ◌==◌, nat_lt, refl}
 use Rattle.std.proofs.Common.{sym, subst}
-use Rattle.std.proofs.lemmas.Bool.{both_ways, and_parts, eqb-true, ltb-true, leb-true}
-use Rattle.rows.specs.Rows.{Move, fits, complete, usable}
-use Rattle.rows.specs.Tasks.{Task, nth, MoveFits, Accepted}
+use Rattle.std.proofs.lemmas.Bool.{both_ways, and_parts, eqb-true, ltb-true}
+use Rattle.rows.specs.Tasks.{Task, nth}
 use Rattle.cost.specs.Costs.{Arithmetic}
 use Rattle.planning.specs.Spaces.{Space, Best}
 use Rattle.planning.specs.Regressions.{regression, Regresses}
@@ -12,42 +11,13 @@ use Rattle.planning.proofs.Regressions.{regression_lawful, best_cheapest}
 use Rattle.uniform.specs.Runs.{Node, Run, opened, Reads, done, link}
 use Rattle.uniform.specs.Steps.{Outcome, skipped, expanded, found, no_plan, out_of_space, going, opening, Ends}
 use Rattle.uniform.specs.Samples.{Kind, arithmetic, amount, Told, plan, no_plan_told, no_space_told, Line, table, Tells, Shown, SampleRuns}
-use Rattle.uniform.specs.Computed.{bind}
-use Rattle.uniform.specs.Endings.{Ran, ran, ran_ends}
-use Rattle.uniform.specs.Goods.{found_cheapest, no_plan_none}
+use Rattle.uniform.specs.Acceptances.{accepts, accepted}
+use Rattle.uniform.proofs.Computed.{bind}
+use Rattle.uniform.proofs.Endings.{Ran, ran, ran_ends}
+use Rattle.uniform.proofs.Goods.{found_cheapest, no_plan_none}
 
 unlike : {X : Type 0} → false ≡ true → X
 unlike e = absurd (both_ways false refl e)
-
--- tests for what is accepted
-abbrev fit : List ℕ → Move → Bool
-fit vs m = (nat_le m.price 1000000000 && fits vs m.condition) && fits vs m.effect
-
-abbrev fit_all : List ℕ → List Move → Bool
-fit_all vs [] = true
-fit_all vs (m ∷ ms) = fit vs m && fit_all vs ms
-
-abbrev accepts : Task → Bool
-accepts t = ((usable t.values && complete t.values t.start) && (fits t.values t.goal && nat_le (length t.moves) 4096)) && fit_all t.values t.moves
-
-fit_is : (vs : List ℕ) (m : Move) → fit vs m ≡ true → MoveFits vs m
-fit_is vs m h =
-    let a = and_parts (nat_le m.price 1000000000 && fits vs m.condition) (fits vs m.effect) h in
-    let b = and_parts (nat_le m.price 1000000000) (fits vs m.condition) a.0 in
-    record { price = leb-true m.price 1000000000 b.0; condition = b.1; effect = a.1 }
-
-fit_at : (vs : List ℕ) (ms : List Move) → fit_all vs ms ≡ true → (n : ℕ) (m : Move) → nth ms n ≡ Some m → MoveFits vs m
-fit_at vs [] h n m e = none_some m e
-fit_at vs (x ∷ ms) h zero m e = fit_is vs m (subst (λ z. fit vs z ≡ true) (some_inj x m e) (and_parts (fit vs x) (fit_all vs ms) h).0)
-fit_at vs (x ∷ ms) h (suc n) m e = fit_at vs ms (and_parts (fit vs x) (fit_all vs ms) h).1 n m e
-
-pub accepted : (t : Task) → accepts t ≡ true → Accepted t
-accepted t h =
-    let a = and_parts ((usable t.values && complete t.values t.start) && (fits t.values t.goal && nat_le (length t.moves) 4096)) (fit_all t.values t.moves) h in
-    let b = and_parts (usable t.values && complete t.values t.start) (fits t.values t.goal && nat_le (length t.moves) 4096) a.0 in
-    let c = and_parts (usable t.values) (complete t.values t.start) b.0 in
-    let d = and_parts (fits t.values t.goal) (nat_le (length t.moves) 4096) b.1 in
-    record { usable = c.0; start = c.1; goal = d.0; few = leb-true (length t.moves) 4096 d.1; move = fit_at t.values t.moves a.1 }
 
 module _ (a : Arithmetic) (p : Space) where
   -- the moves are those read from the node

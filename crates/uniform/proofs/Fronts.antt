@@ -9,9 +9,9 @@ use Rattle.planning.specs.Spaces.{Space, Lawful, Solves, worth}
 use Rattle.planning.proofs.Lists.{some_inj, none_some, nth_below, nth_in, nth_left, nth_push, in_push, in_left, in_last}
 use Rattle.uniform.specs.Runs.{Node, Run, opened, root, CoverAt, Least, answered, taken, keeping, storing, child}
 use Rattle.uniform.specs.Steps.{One, unmoved, covered, stored, Upto, none, more}
-use Rattle.uniform.specs.Waits.{in_without, without_or, map_push, in_map}
-use Rattle.uniform.specs.Reach.{reflexive, onto, by_kept, by_waiting, Closed, Closing, Or, other, it, kept_holds, waits, reach}
-use Rattle.uniform.specs.Reach as reach
+use Rattle.uniform.proofs.Waits.{in_without, without_or, map_push, in_map}
+use Rattle.uniform.proofs.Reach.{reflexive, onto, by_kept, by_waiting, Closed, Closing, Or, other, it, kept_holds, waits, reach}
+use Rattle.uniform.proofs.Reach as reach
 
 module _ (a : Arithmetic) (p : Space) (law : Lawful p) where
   -- the nodes that wait

@@ -9,7 +9,7 @@ use Rattle.planning.specs.Spaces.{Space}
 use Rattle.planning.proofs.Lists.{some_inj, none_some, nth_some}
 use Rattle.uniform.specs.Runs.{Node, Run, CoverAt, Uncovered, Least, answered, taken, keeping, storing, child}
 use Rattle.uniform.specs.Steps.{Outcome, skipped, expanded, found, no_plan, out_of_space, One, unmoved, covered, stored, Upto, none, more, Crowded, Step, ends, skips, finds, expands, crowds}
-use Rattle.uniform.specs.Reach.{reflexive}
+use Rattle.uniform.proofs.Reach.{reflexive}
 
 abbrev later : Option ℕ → Option ℕ
 later None = None
