@@ -53,8 +53,8 @@ fn follow<K>(records: &[Record<K>], node: u16, moves: u16) -> Option<u16>
     }
 }
 
-// How many moves the chain of a node has, if it is not broken.
-fn chain_length<K>(records: &[Record<K>], node: u16, moves: u16) -> Option<usize>
+// How many moves the chain of a node has, or nothing if it is broken.
+pub fn chain_length<K>(records: &[Record<K>], node: u16, moves: u16) -> Option<usize>
     ensures { MatchOption result (Broken records.now moves node) (λ count. (ns : List ℕ) × Chain records.now moves node ns × (count ≡ length ns)) }
 {
     let mut at = node;

@@ -1,5 +1,5 @@
 -- From a file that is read, what opening and working answer.
-use Rattle.std.proofs.Common.{◌≡◌, ℕ, ◌<◌, List, None, Ok, Err, Result, sym, refl, ◌∙◌, subst, inl, inr}
+use Rattle.std.proofs.Common.{◌≡◌, ℕ, ◌<◌, ◌⊎◌, List, None, Ok, Err, Result, sym, refl, ap, ◌∙◌, subst, inl, inr}
 use Rattle.rows.specs.declared.refusals.Refusal.{Refusal}
 use Rattle.rows.specs.declared.refusals.Refusal.TheVariants.{BadFile}
 use Rattle.task.specs.declared.faults.Fault.{Fault}
@@ -21,7 +21,7 @@ use Rattle.search.specs.Works.{WorksSuited, Works}
 ok_inj : {T E : Type 0} (a b : T) → ◌≡◌ {A = Result T E} (Ok a) (Ok b) → a ≡ b
 ok_inj a b e = cc
 
-same_bodies : (file : List ℕ) (b d : Bodies) → reading file ≡ Ok b → reading file ≡ Ok d → b ≡ d
+pub same_bodies : (file : List ℕ) (b d : Bodies) → reading file ≡ Ok b → reading file ≡ Ok d → b ≡ d
 same_bodies file b d p q = ok_inj b d (sym p ∙ q)
 
 module _ {K S Q : Type 0} (C : cost.Ghosts K) (st : store.Ghosts S) (qu : queue.Ghosts Q K) where

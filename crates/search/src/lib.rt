@@ -2,5 +2,6 @@
 
 pub mod jobs;
 pub mod opens;
+mod plans;
 mod reading;
 mod works;

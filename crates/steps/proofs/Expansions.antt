@@ -1,5 +1,5 @@
 -- An expansion, move by move.
-use Rattle.std.proofs.Common.{◌≡◌, ℕ, ◌<◌, length, Some, None, Ok, Option, sym, ◌∙◌, subst, arith}
+use Rattle.std.proofs.Common.{◌≡◌, ℕ, ◌+◌, ◌<◌, ◌≤◌, length, Some, None, Ok, Err, Option, sym, refl, ap, ◌∙◌, subst, arith}
 use Rattle.rows.specs.Tasks.{Task}
 use Rattle.cost.specs.declared.costs.Cost as cost
 use Rattle.store.specs.declared.stores.Store as store
@@ -9,7 +9,7 @@ use Rattle.steps.specs.declared.outcomes.Expansion.TheVariants as expansion
 use Rattle.steps.specs.declared.tables.Tables.{Tables}
 use Rattle.steps.specs.Memories.{memory}
 use Rattle.steps.specs.Steps.{One, Crowded, Upto}
-use Rattle.steps.specs.Answers.{Moved, Expands, Grown, MoveCounts}
+use Rattle.steps.specs.Answers.{Ready, Moved, MoveGranted, Expands, Grown, MoveCounts}
 
 module _ {K S Q : Type 0} (st : store.Ghosts S) (qu : queue.Ghosts Q K) (cap : ℕ) where
   pub counts_some : (s t : Tables K S Q) (p q : Progress) (o : Option Progress) → o ≡ Some q → MoveCounts st qu cap s p t (Ok o) → Grown st qu cap s p t q
@@ -30,6 +30,9 @@ module _ {K S Q : Type 0} (C : cost.Ghosts K) (st : store.Ghosts S) (qu : queue.
   pub moved_some : (m : ℕ) (s t : Tables K S Q) (p q : Progress) (o : Option Progress) → o ≡ Some q → Moved C st qu task cap n m s p t (Ok o)
       → qu.ordered t.queue × One C task cap n m (memory st qu s p.stored p.cover) (memory st qu t q.stored q.cover)
   moved_some m s t p q o e h = subst (λ z. Moved C st qu task cap n m s p t (Ok z)) e h
+
+  pub granted_some : (t : Tables K S Q) (q : Progress) (o : Option Progress) → o ≡ Some q → MoveGranted C st qu task cap n t (Ok o) → Ready C task cap n (memory st qu t q.stored q.cover)
+  granted_some t q o e h = subst (λ z. MoveGranted C st qu task cap n t (Ok z)) e h
 
   pub moved_none : (m : ℕ) (s t : Tables K S Q) (p : Progress) (o : Option Progress) → o ≡ None → Moved C st qu task cap n m s p t (Ok o) → Crowded C task cap n m (memory st qu s p.stored p.cover)
   moved_none m s t p o e h = subst (λ z. Moved C st qu task cap n m s p t (Ok z)) e h

@@ -1,6 +1,7 @@
 pub mod Tasks
 pub mod Parts
 pub mod Moves
+pub mod Results
 pub mod Expansions
 pub mod Visits
 pub mod Leasts

@@ -1,7 +1,8 @@
 -- What one move keeps.
-use Rattle.std.proofs.Common.{◌≡◌, ℕ, ◌+◌, ◌*◌, ◌<◌, ◌≤◌, true, false, ◌≢◌, List, ◌∷◌, length, get_or, set, Some, None, Option, sym, refl, ap, ◌∙◌, subst, add-mul, one-mul, arith, length-set, get_or-set_other}
+use Rattle.std.proofs.Common.{◌≡◌, ℕ, ◌+◌, ◌*◌, ◌<◌, ◌≤◌, true, false, ◌≢◌, List, [], ◌∷◌, length, get_or, set, Some, None, Option, sym, refl, ap, ◌∙◌, subst, add-mul, one-mul, arith, length-set, get_or-set_other}
 use lib.Seq.{length-paste}
 use Rattle.std.proofs.lemmas.List.Sorted.{length_permutation}
+use Rattle.queue.specs.declared.entries.Entry.{Entry}
 use Rattle.std.proofs.lemmas.Bool.{both_ways}
 use Rattle.rows.specs.Rows.{Row, fits}
 use Rattle.rows.specs.Tasks.{Task, Accepted}
@@ -11,7 +12,7 @@ use Rattle.planning.specs.Plans.{price}
 use Rattle.steps.specs.declared.tables.Record.{Record}
 use Rattle.steps.specs.Memories.{Memory, At, width, row_at, written}
 use Rattle.steps.specs.Steps.{back, Joined, Stored, One, unmoved, covered, stores}
-use Rattle.steps.specs.Answers.{Ready}
+use Rattle.steps.specs.Answers.{Fit, Ready}
 use Rattle.steps.proofs.Parts.{row_below, row_within, length_written}
 use Rattle.steps.proofs.Tasks.{back_fits, fits_length}
 
@@ -96,4 +97,16 @@ module _ {K : Type 0} (C : cost.Ghosts K) (task : Task) (cap : ℕ) (acc : Accep
           };
         };
         roomy = omega (arith, rd.roomy, gr.stored, gr.room);
+      }
+
+module _ {K : Type 0} (C : cost.Ghosts K) (task : Task) (cap : ℕ) where
+  -- of what waits only the number counts
+  pub ready_as_many : {n : ℕ} (s : Memory K) (w : List (Entry K)) → length w ≡ length s.waiting → Ready C task cap n s
+      → Ready C task cap n (record { bytes = s.bytes; records = s.records; table = s.table; kept = s.kept; space = s.space; waiting = w; room = s.room; stored = s.stored; cover = s.cover })
+  ready_as_many s w e rd =
+      let f = rd.fit in
+      let sd = f.sound in
+      record {
+        fit = record { within = f.within; short = f.short; bytes = f.bytes; records = f.records; table = f.table; sound = record { node = sd.node; fit = sd.fit; noted = sd.noted; there = sd.there; joins = sd.joins } };
+        roomy = omega (arith, rd.roomy, e);
       }

@@ -1,5 +1,5 @@
 -- From a taking and a visit, a step.
-use Rattle.std.proofs.Common.{◌≡◌, ℕ, ◌+◌, ◌*◌, ◌<◌, ◌≤◌, true, ◌∷◌, length, Ok, Err, Result, sym, ap, ◌∙◌, subst, arith}
+use Rattle.std.proofs.Common.{◌≡◌, ℕ, ◌+◌, ◌*◌, ◌<◌, ◌≤◌, true, List, [], ◌∷◌, length, Ok, Err, Result, sym, refl, ap, ◌∙◌, subst, arith}
 use Rattle.std.proofs.lemmas.List.Sorted.{length_permutation}
 use Rattle.rows.specs.declared.refusals.Refusal.{Refusal}
 use Rattle.rows.specs.Rows.{fits}
@@ -8,13 +8,14 @@ use Rattle.cost.specs.declared.costs.Cost as cost
 use Rattle.store.specs.declared.stores.Store as store
 use Rattle.queue.specs.declared.entries.Entry.{Entry}
 use Rattle.queue.specs.declared.queues.Queue as queue
+use Rattle.queue.specs.Orders.{Names}
 use Rattle.steps.specs.declared.numbers.Progress.{Progress}
 use Rattle.steps.specs.declared.outcomes.Visited.{Visited}
 use Rattle.steps.specs.declared.outcomes.Visited.TheVariants as visited
 use Rattle.steps.specs.declared.tables.Tables.{Tables}
 use Rattle.steps.specs.Memories.{Memory, memory, At, width, row_at}
-use Rattle.steps.specs.Steps.{Taken, Visit, takes, Sized, Sound}
-use Rattle.steps.specs.Answers.{Steady, Eager, Visits, Takes, outcome, after, VisitCounts, TakeCounts}
+use Rattle.steps.specs.Steps.{Taken, Visit, Step, takes, Sized, Sound}
+use Rattle.steps.specs.Answers.{Fit, Steady, Eager, Visits, Takes, outcome, after, VisitCounts, TakeCounts}
 
 module _ {K : Type 0} (C : cost.Ghosts K) (task : Task) (cap : ℕ) where
   pub steady_taken : {n : ℕ} {e : Entry K} {s t : Memory K} → Eager C task cap n s → Taken C task e s t → Steady C task cap n t
@@ -40,6 +41,20 @@ module _ {K : Type 0} (C : cost.Ghosts K) (task : Task) (cap : ℕ) where
           roomy = omega (arith, eg.roomy, k.room, k.stored);
         };
         spare = omega (arith, eg.spare, ap length k.kept, k.space);
+      }
+
+  -- once an entry is taken, whichever
+  pub steady_fewer : {n : ℕ} (s : Memory K) (w : List (Entry K)) (room : ℕ) → length w + 1 ≡ length s.waiting → room ≡ s.room → Eager C task cap n s
+      → Steady C task cap n (record { bytes = s.bytes; records = s.records; table = s.table; kept = s.kept; space = s.space; waiting = w; room = room; stored = s.stored; cover = s.cover })
+  steady_fewer s w room e r eg =
+      let f = eg.fit in
+      let sd = f.sound in
+      record {
+        ready = record {
+          fit = record { within = f.within; short = f.short; bytes = f.bytes; records = f.records; table = f.table; sound = record { node = sd.node; fit = sd.fit; noted = sd.noted; there = sd.there; joins = sd.joins } };
+          roomy = omega (arith, eg.roomy, e, r);
+        };
+        spare = eg.spare;
       }
 
   -- the sizes and counts are right, something waits, and the node is sound

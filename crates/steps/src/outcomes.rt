@@ -1,6 +1,14 @@
 // What the inner functions of a turn tell each other.
 use crate::numbers::Progress;
 
+// The move by which a row was met: the node that it was tried at, its number and its price.
+#[derive(Clone, Copy)]
+pub struct Met {
+    pub parent: u16,
+    pub step: u16,
+    pub price: u32,
+}
+
 // How an expansion ended: each move was tried, or one found no space.
 #[derive(Clone, Copy)]
 pub enum Expansion {

@@ -4,11 +4,12 @@ ghost use Rattle.task.specs.Files.{task_of};
 ghost use Rattle.queue.specs.Orders.{Names};
 ghost use Rattle.steps.specs.Memories.{memory, width};
 ghost use Rattle.steps.specs.Steps.{Sound, Sized};
-ghost use Rattle.steps.specs.Answers.{Ready, Steady, Eager, Moved, MoveCounts, Expands, ExpandCounts, Visits, VisitCounts, Takes, TakeCounts, Looks, Looked};
+ghost use Rattle.steps.specs.Answers.{Ready, Steady, Eager, Granted, Moved, MoveGranted, MoveCounts, Expands, ExpandCounts, Visits, VisitCounts, Takes, TakeCounts, Looks, Looked};
+ghost use Rattle.steps.specs.Results.{Adds, Admits};
 ghost use Rattle.steps.specs.Turns.{Turns, Counts};
 
 use crate::numbers::{Numbers, Progress, Turned};
-use crate::outcomes::{Expansion, Look, Visited};
+use crate::outcomes::{Expansion, Look, Met, Visited};
 use crate::tables::{Record, Tables};
 use crate::{
     agrees, cost_at, covering, fetch, grow, move_cost, move_count, regress, row_at, same, told,
@@ -19,6 +20,68 @@ use rows::checks::fits;
 use rows::refusals::Refusal;
 use store::stores::Store;
 use task::accepted::Accepted;
+
+// A row that no kept one covers, as the next node, or nothing where there is no space.
+fn add<K: Cost, S: Store, Q: Queue<K>>(
+    t: &mut Tables<'_, K, S, Q>,
+    met: Met,
+    row: &[u8],
+    p: Progress,
+    cap: u16,
+) -> Result<Option<Progress>, Refusal>
+    requires node { met.parent < p.stored }
+    requires within { p.stored ≤ cap }
+    requires bytes { cap * length row.now ≤ length t.old.rows.now }
+    requires records { cap ≤ length t.old.records.now }
+    requires short { length row.now ≤ 64 }
+    ensures { Adds K.Cost S.Store Q.Queue cap met row.now t.old p t.new result }
+{
+    if p.stored >= cap {
+        return Ok(None);
+    }
+    match move_cost(met.price, cost_at(t, met.parent as usize)) {
+        Err(e) => Err(e),
+        Ok(cost) => {
+            let r = Record {
+                cost,
+                parent: met.parent,
+                step: met.step,
+            };
+            match grow(t, p.stored, row, r) {
+                Err(e) => Err(e),
+                Ok(()) => Ok(Some(Progress {
+                    stored: p.stored + 1,
+                    cover: p.cover,
+                })),
+            }
+        }
+    }
+}
+
+// What is done with the result of a move, by the rank of the row that covers it. For a covered one nothing is written.
+fn admit<K: Cost, S: Store, Q: Queue<K>>(
+    t: &mut Tables<'_, K, S, Q>,
+    found: Option<u16>,
+    met: Met,
+    row: &[u8],
+    p: Progress,
+    cap: u16,
+) -> Result<Option<Progress>, Refusal>
+    requires node { met.parent < p.stored }
+    requires within { p.stored ≤ cap }
+    requires bytes { cap * length row.now ≤ length t.old.rows.now }
+    requires records { cap ≤ length t.old.records.now }
+    requires short { length row.now ≤ 64 }
+    ensures { Admits K.Cost S.Store Q.Queue cap found met row.now t.old p t.new result }
+{
+    match found {
+        Some(k) => Ok(Some(Progress {
+            stored: p.stored,
+            cover: Some(k),
+        })),
+        None => add(t, met, row, p, cap),
+    }
+}
 
 // Move m at node n: how far the expansion has come then, or nothing where there is no space.
 fn expand_move<K: Cost, S: Store, Q: Queue<K>>(
@@ -38,40 +101,21 @@ fn expand_move<K: Cost, S: Store, Q: Queue<K>>(
     ensures counts { MoveCounts S.Store Q.Queue cap t.old p t.new result }
     ensures bytes { length t.new.rows.now ≡ length t.old.rows.now }
     ensures records { length t.new.records.now ≡ length t.old.records.now }
+    ensures granted { Ready K.Cost (task_of (held accepted.now.task)) cap n (memory S.Store Q.Queue t.old p.stored p.cover) → MoveGranted K.Cost S.Store Q.Queue (task_of (held accepted.now.task)) cap n t.new result }
     ensures moved { Q.Queue.ordered t.old.queue → Ready K.Cost (task_of (held accepted.now.task)) cap n (memory S.Store Q.Queue t.old p.stored p.cover) → Moved K.Cost S.Store Q.Queue (task_of (held accepted.now.task)) cap n m t.old p t.new result }
 {
     match regress(accepted, m, row_at(t, n, scratch.len()), scratch) {
         None => Ok(Some(p)),
         Some(price) => match covering(t, scratch) {
             Err(e) => Err(e),
-            Ok(found) => match found {
-                Some(k) => Ok(Some(Progress {
-                    stored: p.stored,
-                    cover: Some(k),
-                })),
-                None => {
-                    if p.stored >= cap {
-                        return Ok(None);
-                    }
-                    match move_cost(price, cost_at(t, n as usize)) {
-                        Err(e) => Err(e),
-                        Ok(cost) => {
-                            let r = Record {
-                                cost,
-                                parent: n,
-                                step: m,
-                            };
-                            match grow(t, p.stored, scratch, r) {
-                                Err(e) => Err(e),
-                                Ok(()) => Ok(Some(Progress {
-                                    stored: p.stored + 1,
-                                    cover: p.cover,
-                                })),
-                            }
-                        }
-                    }
-                }
-            },
+            Ok(found) => {
+                let met = Met {
+                    parent: n,
+                    step: m,
+                    price,
+                };
+                admit(t, found, met, scratch, p, cap)
+            }
         },
     }
 }
@@ -93,6 +137,7 @@ fn expand<K: Cost, S: Store, Q: Queue<K>>(
     ensures counts { ExpandCounts S.Store Q.Queue cap t.old from t.new result }
     ensures bytes { length t.new.rows.now ≡ length t.old.rows.now }
     ensures records { length t.new.records.now ≡ length t.old.records.now }
+    ensures granted { Ready K.Cost (task_of (held accepted.now.task)) cap n (memory S.Store Q.Queue t.old from.stored from.cover) → Granted result }
     ensures expands { Q.Queue.ordered t.old.queue → Ready K.Cost (task_of (held accepted.now.task)) cap n (memory S.Store Q.Queue t.old from.stored from.cover) → Expands K.Cost S.Store Q.Queue (task_of (held accepted.now.task)) cap n t.old from t.new result }
 {
     let mut p = from;
@@ -123,6 +168,7 @@ fn visit<K: Cost, S: Store, Q: Queue<K>>(
     requires records { cap ≤ length t.old.records.now }
     requires scratch { length scratch.old ≡ width (task_of (held accepted.now.task)) }
     ensures counts { VisitCounts S.Store Q.Queue cap t.old p t.new result }
+    ensures granted { Steady K.Cost (task_of (held accepted.now.task)) cap n (memory S.Store Q.Queue t.old p.stored p.cover) → Granted result }
     ensures visits { Q.Queue.ordered t.old.queue → Steady K.Cost (task_of (held accepted.now.task)) cap n (memory S.Store Q.Queue t.old p.stored p.cover) → Visits K.Cost S.Store Q.Queue (task_of (held accepted.now.task)) cap n t.old p t.new result }
 {
     fetch(t, n, scratch);
@@ -164,6 +210,7 @@ fn step<K: Cost, S: Store, Q: Queue<K>>(
     requires records { cap ≤ length t.old.records.now }
     requires scratch { length scratch.old ≡ width (task_of (held accepted.now.task)) }
     ensures counts { TakeCounts S.Store Q.Queue cap t.old p t.new result }
+    ensures granted { 0 < length (Q.Queue.entries t.old.queue) → Eager K.Cost (task_of (held accepted.now.task)) cap n (memory S.Store Q.Queue t.old p.stored p.cover) → Granted result }
     ensures takes { Q.Queue.ordered t.old.queue → Names K.Cost (Q.Queue.entries t.old.queue) n → Eager K.Cost (task_of (held accepted.now.task)) cap n (memory S.Store Q.Queue t.old p.stored p.cover) → Takes K.Cost S.Store Q.Queue (task_of (held accepted.now.task)) cap n t.old p t.new result }
 {
     match t.queue.take() {
@@ -255,7 +302,7 @@ fn turn_in<K: Cost, S: Store, Q: Queue<K>>(
     job: Numbers,
 ) -> Turned
     requires { length scratch.old ≡ width (task_of (held accepted.now.task)) }
-    ensures counts { Counts K.Cost S.Store Q.Queue (task_of (held accepted.now.task)) job t.new result }
+    ensures counts { Counts K.Cost S.Store Q.Queue (task_of (held accepted.now.task)) job t.old t.new result }
     ensures turns { Q.Queue.ordered t.old.queue → Turns K.Cost S.Store Q.Queue (task_of (held accepted.now.task)) job t.old t.new result }
 {
     let capacity = job.capacity;
@@ -299,7 +346,7 @@ pub fn turn<K: Cost, S: Store, Q: Queue<K>>(
     t: &mut Tables<'_, K, S, Q>,
     job: Numbers,
 ) -> Turned
-    ensures counts { Counts K.Cost S.Store Q.Queue (task_of (held accepted.now.task)) job t.new result }
+    ensures counts { Counts K.Cost S.Store Q.Queue (task_of (held accepted.now.task)) job t.old t.new result }
     ensures turns { Q.Queue.ordered t.old.queue → Turns K.Cost S.Store Q.Queue (task_of (held accepted.now.task)) job t.old t.new result }
 {
     let mut scratch = [0u8; 64];

@@ -1,6 +1,6 @@
-use Rattle.std.proofs.Common.{◌≡◌, length}
+use Rattle.std.proofs.Common.{◌≡◌, ◌<◌, ◌≤◌, length}
 use Rattle.task.specs.Answers.{held}
-use Rattle.task.specs.Files.{task_of}
+use Rattle.task.specs.Files.{task_of, move_count}
 use Rattle.steps.specs.Memories.{memory}
 use Rattle.steps.specs.Steps.{Upto}
 use Rattle.steps.specs.Answers.{Ready, Grown}
@@ -15,3 +15,5 @@ invariant-loop-m g l =
     → g.Q.Queue.ordered l.t.queue
     × Upto g.K.Cost (task_of (held l.accepted.task)) l.cap l.n (memory g.S.Store g.Q.Queue l.initial.t l.initial.p.stored l.initial.p.cover) l.m (memory g.S.Store g.Q.Queue l.t l.p.stored l.p.cover)
     × Ready g.K.Cost (task_of (held l.accepted.task)) l.cap l.n (memory g.S.Store g.Q.Queue l.t l.p.stored l.p.cover))
+    × (Ready g.K.Cost (task_of (held l.accepted.task)) l.cap l.n (memory g.S.Store g.Q.Queue l.initial.t l.initial.p.stored l.initial.p.cover)
+    → Ready g.K.Cost (task_of (held l.accepted.task)) l.cap l.n (memory g.S.Store g.Q.Queue l.t l.p.stored l.p.cover))

@@ -1,4 +1,4 @@
-use Rattle.std.proofs.Common.{◌+◌, sym, refl, ap, ◌∙◌, arith}
+use Rattle.std.proofs.Common.{◌≡◌, ℕ, ◌+◌, ◌-◌, ◌<◌, ◌≤◌, sym, refl, ap, ◌∙◌, subst, arith}
 use Rattle.task.specs.Answers.{held}
 use Rattle.task.specs.Files.{task_of}
 use Rattle.uniform.specs.Steps.{skipped, expanded}
@@ -8,8 +8,8 @@ use Rattle.steps.proofs.turns.turn_in.Goals as goal
 
 pub returns-in-Empty : goal.returns-in-Empty
 returns-in-Empty g c = record {
-  counts = tt;
-  turns = λ o. let w = c.in-Empty.ensures.looks o in (refl, record { whole = w.0; step = ends w.1 });
+  counts = refl;
+  turns = λ o. let w = c.in-Empty.ensures.looks o in record { whole = w.0; step = ends w.1 };
 }
 
 pub returns-in-Skipped : goal.returns-in-Skipped
@@ -75,9 +75,5 @@ returns-in-Err g c =
     let task = task_of (held c.args.accepted.now.task) in
     let job = c.args.job in
     let b = c.in-Least.ensures.looked in
-    record {
-      counts = tt;
-      turns = λ o.
-          let w = c.in-Least.ensures.looks o in
-          absurd (c.in-Err.ensures.takes o w.1 (eager g.K.Cost task job.capacity b.0 b.2 job.within job.short job.counted b.1));
-    }
+    let none : ⊥ = c.in-Err.ensures.granted (omega (arith, b.0.waits, b.1)) (eager g.K.Cost task job.capacity b.0 b.2 job.within job.short job.counted b.1) in
+    record { counts = absurd none; turns = λ o. absurd none }

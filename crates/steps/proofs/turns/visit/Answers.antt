@@ -1,5 +1,5 @@
-use Rattle.std.proofs.Common.{[], ◌∷◌, ◌++◌, sym, refl, ap, ◌∙◌, subst, arith}
-use Rattle.rows.specs.Rows.{covers}
+use Rattle.std.proofs.Common.{◌≡◌, ℕ, ◌+◌, ◌<◌, ◌≤◌, true, false, List, [], ◌∷◌, ◌++◌, sym, refl, ap, ◌∙◌, subst, arith}
+use Rattle.rows.specs.Rows.{Row, covers, fits}
 use Rattle.store.specs.Stores.{CoverAt, Uncovered}
 use Rattle.store.proofs.Known.{only_full, not_held}
 use Rattle.task.specs.Answers.{held}
@@ -25,6 +25,7 @@ returns-then-agrees g c =
     let e = fetched _ c.args.t.now.rows.now _ _ c.args.n c.requires.scratch c.fetch.ensures in
     record {
       counts = c.requires.node;
+      granted = λ sd. tt;
       visits = λ o sd. (o, finds (subst (λ z. Uncovered (g.S.Store.kept c.args.t.now.store) z) e (found_none c.in-None.is c.in-Ok.ensures.1)) (ap (λ z. covers z task.start) (sym e) ∙ sym c.if-agrees.ensures));
     }
 
@@ -33,13 +34,15 @@ returns-in-Some g c =
     let e = fetched _ c.args.t.now.rows.now _ _ c.args.n c.requires.scratch c.fetch.ensures in
     record {
       counts = record { stored = refl; keeps = refl; waits = refl };
+      granted = λ sd. tt;
       visits = λ o sd. (o, skips (subst (λ z. CoverAt (g.S.Store.kept c.args.t.now.store) z c.in-Some.k) e (found_some c.in-Some.is c.in-Ok.ensures.1)));
     }
 
 pub returns-in-Err-keep : goal.returns-in-Err-keep
 returns-in-Err-keep g c = record {
   counts = tt;
-  visits = λ o sd.
+  visits = λ o sd. tt;
+  granted = λ sd.
       let u = found_none c.in-None.is c.in-Ok.ensures.1 in
       let f = only_full _ _ _ _ c.in-Err-keep.e c.in-Ok.ensures.0 (not_held _ _ u) c.in-Err-keep.ensures.answer.1 in
       omega (arith, f.1, sd.spare);
@@ -50,7 +53,8 @@ returns-in-Err-expand g c =
     let task = task_of (held c.args.accepted.now.task) in
     record {
       counts = tt;
-      visits = λ o sd. c.in-Err-expand.ensures.expands o (ready_kept g.K.Cost task c.args.cap {r = c.fetch.new.out} {s = memory g.S.Store g.Q.Queue c.args.t.now c.args.p.stored c.args.p.cover} sd
+      visits = λ o sd. tt;
+      granted = λ sd. c.in-Err-expand.ensures.granted (ready_kept g.K.Cost task c.args.cap {r = c.fetch.new.out} {s = memory g.S.Store g.Q.Queue c.args.t.now c.args.p.stored c.args.p.cover} sd
           (record { kept = c.in-Ok-keep.ensures.answer.3; bytes = refl; records = refl; table = c.keep.ensures.values; space = c.keep.ensures.space; waiting = refl; room = refl; stored = refl; cover = refl }));
     }
 
@@ -62,6 +66,7 @@ returns-in-Ok-expand g c =
     let mid : Tables g.row.K.Denot g.row.S.Denot g.row.Q.Denot = record { rows = c.args.t.now.rows; records = c.args.t.now.records; store = c.keep.new.self; queue = c.args.t.now.queue } in
     record {
       counts = counts_told g.S.Store g.Q.Queue c.args.cap c.args.t.now mid c.expand.new.t c.args.p c.in-Ok-expand.expansion c.told.result _ c.told.ensures c.in-Ok-keep.ensures.answer.3 refl c.in-Ok-expand.ensures.counts;
+      granted = λ sd. tt;
       visits = λ o sd.
           let kp : Kept g.K.Cost task _ (memory g.S.Store g.Q.Queue c.args.t.now c.args.p.stored c.args.p.cover) (memory g.S.Store g.Q.Queue mid c.args.p.stored c.args.p.cover)
           = record { kept = c.in-Ok-keep.ensures.answer.3 ∙ ap (λ z. kept ++ z ∷ []) e; bytes = refl; records = refl; table = c.keep.ensures.values; space = c.keep.ensures.space; waiting = refl; room = refl; stored = refl; cover = refl } in

@@ -1,0 +1,130 @@
+#![tactic(auto)]
+
+ghost use Rattle.std.specs.Prelude.{◌≡◌, ◌+◌, ◌<◌, ◌≤◌, ◌++◌, length, decimal, MatchBool};
+ghost use Rattle.task.specs.Answers.{held};
+ghost use Rattle.device.specs.Texts.{newline, name_of, name_lines, cost_line, plan_text, Placed, Puts};
+
+mod answers;
+
+pub use answers::{ANSWER, LONGEST, answer};
+use rows::refusals::Refusal;
+use task::accepted::Accepted;
+
+// Writes a piece into a buffer at a place, and answers where it ends.
+fn put(out: &mut [u8], at: usize, piece: &[u8]) -> usize
+    requires { at + length piece.now ≤ length out.old }
+    ensures { Placed at piece.now out.old result out.new }
+{
+    let end = at + piece.len();
+    out[at..end].copy_from_slice(piece);
+    end
+}
+
+// Writes a line at a place, and answers where it ends.
+fn put_line(out: &mut [u8], at: usize, line: &[u8]) -> usize
+    requires { at + (length line.now + 1) ≤ length out.old }
+    ensures { Placed at (line.now ++ newline) out.old result out.new }
+{
+    let end = put(out, at, line);
+    put(out, end, b"\n")
+}
+
+// How many decimal digits a number has.
+fn digits(n: u64) -> usize
+    ensures { result ≡ length (decimal n) }
+{
+    if n < 10 {
+        return 1;
+    }
+    digits(n / 10) + 1
+}
+
+// Writes a number in decimal at a place, and answers where it ends.
+fn put_number(out: &mut [u8], at: usize, n: u64) -> usize
+    requires { at + length (decimal n) ≤ length out.old }
+    ensures { Placed at (decimal n) out.old result out.new }
+{
+    let last = [b'0' + (n % 10) as u8];
+    if n < 10 {
+        return put(out, at, &last);
+    }
+    let end = put_number(out, at, n / 10);
+    put(out, end, &last)
+}
+
+// Writes the line of an amount, and answers where it ends.
+fn put_cost(out: &mut [u8], amount: u64) -> usize
+    requires { length (cost_line amount) ≤ length out.old }
+    ensures { Placed 0 (cost_line amount) out.old result out.new }
+{
+    let word = put(out, 0, b"cost ");
+    let number = put_number(out, word, amount);
+    put(out, number, b"\n")
+}
+
+// The name of a move; empty if there is no such move.
+fn name_of<'a>(accepted: &Accepted<'a>, k: u16) -> &'a [u8]
+    ensures { result.now ≡ name_of (held accepted.now.task) k }
+{
+    match accepted.name(usize::from(k)) {
+        Some((name, _)) => name,
+        None => b"",
+    }
+}
+
+// Whether the lines of these moves' names fit so many bytes.
+fn names_fit(accepted: &Accepted<'_>, moves: &[u16], room: usize) -> bool
+    ensures { MatchBool result (length (name_lines (held accepted.now.task) moves.now) ≤ room) (room < length (name_lines (held accepted.now.task) moves.now)) }
+{
+    let mut left = room;
+    for k in moves {
+        let size = name_of(accepted, *k).len();
+        if left <= size {
+            return false;
+        }
+        left -= size + 1;
+    }
+    true
+}
+
+// Writes the lines of these moves' names from a place on, and answers where they end.
+fn put_names(out: &mut [u8], at: usize, accepted: &Accepted<'_>, moves: &[u16]) -> usize
+    requires { at + length (name_lines (held accepted.now.task) moves.now) ≤ length out.old }
+    ensures { Placed at (name_lines (held accepted.now.task) moves.now) out.old result out.new }
+{
+    let mut end = at;
+    for k in moves {
+        end = put_line(out, end, name_of(accepted, *k));
+    }
+    end
+}
+
+// Writes a plan's amount and the names of its moves, and answers how many bytes these are.
+fn write_plan(
+    accepted: &Accepted<'_>,
+    amount: u64,
+    moves: &[u16],
+    out: &mut [u8],
+) -> Result<usize, Refusal>
+    ensures { Puts (plan_text (held accepted.now.task) amount moves.now) out.old result out.new }
+{
+    let head = digits(amount) + 6;
+    if out.len() < head {
+        return Err(Refusal::ShortBuffer);
+    }
+    if !names_fit(accepted, moves, out.len() - head) {
+        return Err(Refusal::ShortBuffer);
+    }
+    let end = put_cost(out, amount);
+    Ok(put_names(out, end, accepted, moves))
+}
+
+// Writes a text, and answers how many bytes it is.
+fn write_text(text: &[u8], out: &mut [u8]) -> Result<usize, Refusal>
+    ensures { Puts text.now out.old result out.new }
+{
+    if out.len() < text.len() {
+        return Err(Refusal::ShortBuffer);
+    }
+    Ok(put(out, 0, text))
+}
