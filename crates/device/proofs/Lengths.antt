@@ -1,5 +1,5 @@
 -- How long a text can be.
-use Rattle.std.proofs.Common.{◌≡◌, ℕ, zero, suc, ◌+◌, ◌*◌, ◌^◌, ◌<◌, ◌≤◌, min, true, false, ◌&&◌, leb, List, [], ◌∷◌, ◌++◌, map, length, take, drop, Some, None, Ok, Err, decimal, Option, Result, sym, refl, ap, ◌∙◌, subst, arith, length-append, length-take}
+use Rattle.std.proofs.Common.{◌≡◌, ℕ, zero, suc, ◌+◌, ◌*◌, ◌^◌, ◌<◌, ◌≤◌, true, false, ◌&&◌, leb, List, [], ◌∷◌, length, take, drop, Some, None, Ok, Err, Option, Result, refl, ap, ◌∙◌, subst, arith, length-append, length-take}
 use Rattle.std.proofs.lemmas.Bool.{and_parts, leb-true, both_ways}
 use Rattle.std.proofs.lemmas.Fmt.{length-decimal-le}
 use Rattle.rows.specs.declared.refusals.Refusal.{Refusal}
@@ -10,15 +10,15 @@ use Rattle.task.proofs.Readings.{read_parts}
 use Rattle.cost.specs.Costs.{Arithmetic}
 use Rattle.cost.specs.Kinds.{spend}
 use Rattle.planning.specs.Plans.{plan_cost, price, price_of}
-use Rattle.planning.specs.Regressions.{regression, Regresses}
+use Rattle.planning.specs.Regressions.{regression}
 use Rattle.planning.specs.Spaces.{Space, Lawful}
 use Rattle.uniform.specs.Runs.{Run, Reads}
 use Rattle.uniform.specs.Steps.{Outcome, found, Step, ends, skips, finds, expands, crowds, Ends}
 use Rattle.uniform.proofs.Goods.{found_cheapest, joins_few}
 use Rattle.uniform.proofs.Chains.{reads_unique}
-use Rattle.device.specs.Texts.{newline, name_text, name_of, name_line, name_lines, plan_text, Puts}
+use Rattle.device.specs.Texts.{newline, name_text, name_of, name_line, name_lines, Puts}
 use Rattle.device.specs.Answers.{capacity_of, Tells, plan, none, space, Shows, long, refused, searched, most, Enough}
-use Rattle.device.proofs.Meanings.{accepted, law, apart, kind}
+use Rattle.device.proofs.Meanings.{accepted, law, apart}
 use Rattle.device.proofs.Places.{plan_length}
 
 -- a step that finds a node stores none

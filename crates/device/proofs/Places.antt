@@ -1,11 +1,10 @@
 -- Texts that are put into a buffer one behind the other.
-use Rattle.std.proofs.Common.{◌≡◌, ℕ, ◌+◌, ◌/◌, ◌%◌, ◌^◌, ◌<◌, ◌≤◌, List, [], ◌∷◌, ◌++◌, length, get_or, take, drop, decimal, sym, refl, ap, ◌∙◌, subst, append_assoc, mod-eq_of_lt, arith, length-append}
-use Rattle.std.proofs.lemmas.List.{length-take-le, append-nil, flat_map_more, at_drop_more, at_drop_all, take_more, take_all}
+use Rattle.std.proofs.Common.{◌≡◌, ℕ, ◌+◌, ◌/◌, ◌%◌, ◌^◌, ◌<◌, ◌≤◌, List, [], ◌∷◌, ◌++◌, length, get_or, take, drop, decimal, sym, ap, ◌∙◌, subst, append_assoc, mod-eq_of_lt, arith, length-append}
+use Rattle.std.proofs.lemmas.List.{append-nil, flat_map_more, at_drop_more, at_drop_all, take_more, take_all}
 use Rattle.std.proofs.lemmas.Fmt.{decimal_digit, decimal_step, length-decimal-le}
-use Rattle.std.specs.List.{flat_map}
 use Rattle.rows.specs.Calls.{over}
 use Rattle.task.specs.Files.{Bodies}
-use Rattle.task.proofs.Pieces.{over_more, Done, next, from}
+use Rattle.task.proofs.Pieces.{next, from}
 use Rattle.device.specs.Texts.{newline, name_of, name_line, name_lines, cost_line, plan_text, Placed}
 
 -- two texts, one behind the other

@@ -1,5 +1,5 @@
 -- What a search in the device's memory tells, as the text that is shown of it.
-use Rattle.std.proofs.Common.{◌≡◌, ℕ, ◌<◌, ◌≤◌, List, ◌++◌, length, take, drop, Ok, Err, Result, sym, refl, ap, ◌∙◌, subst, arith, length-append}
+use Rattle.std.proofs.Common.{◌≡◌, ℕ, List, ◌++◌, length, take, drop, Ok, Err, Result, sym, ap, ◌∙◌, subst, arith, length-append}
 use Rattle.std.proofs.lemmas.List.{take_at}
 use Rattle.rows.specs.declared.refusals.Refusal.{Refusal}
 use Rattle.task.specs.Files.{Bodies, width, reading, task_of}
@@ -19,7 +19,7 @@ use Rattle.solver.specs.declared.solutions.Solved.TheVariants.{Found, NoPlan, Ou
 use Rattle.solver.specs.Solutions.{Ended, Solution}
 use Rattle.solver.specs.Solutions as solver
 use Rattle.device.specs.Texts.{plan_text}
-use Rattle.device.specs.Answers.{capacity_of, no_plan_text, out_of_space_text, Tells, plan, none, space}
+use Rattle.device.specs.Answers.{capacity_of, Tells, plan, none, space}
 use Rattle.device.specs.Searches.{Searched}
 use Rattle.device.proofs.Meanings.{ok_one, some_space}
 use Rattle.device.proofs.Sizes.{read_usable, Sized, sized_new, sized_capacity}

@@ -1,5 +1,5 @@
 -- Tables in the device's memory are new, and have its capacity.
-use Rattle.std.proofs.Common.{◌≡◌, ℕ, ◌-◌, ◌/◌, ◌≤◌, min, Bool, true, cond, ◌&&◌, ltb, leb, List, [], length, sym, refl, ap, ◌∙◌, div-le_self, arith}
+use Rattle.std.proofs.Common.{◌≡◌, ◌/◌, min, true, cond, ◌&&◌, ltb, leb, [], length, ap, ◌∙◌, div-le_self, arith}
 use Rattle.std.proofs.lemmas.Bool.{and_parts, and_from}
 use Rattle.rows.specs.Rows.{valued, usable}
 use Rattle.task.specs.Files.{Bodies, width, counts, positions, task_of}

@@ -21,7 +21,7 @@ use Rattle.uniform.proofs.Goods.{runs_orderly}
 use Rattle.steps.specs.Memories.{Memory, width, row_at}
 use Rattle.steps.specs.Steps.{One, unmoved, covered, stores, Crowded, Upto, none, more, Kept, Taken, Visit, skips, finds, expands, crowds, Step, ends, takes}
 use Rattle.steps.specs.Steps as steps
-use Rattle.follow.proofs.Helds.{Held, Ample, StepsAlike, NeverTorn}
+use Rattle.steps.specs.Holdings.{Held, Ample, StepsAlike, NeverTorn}
 use Rattle.follow.proofs.Holdings.{cover_at, uncovered, held_answered, held_taken, held_kept, held_stored, ample_taken, ample_kept, ample_answered, ample_stored, least_is, sound_is, as_many, waits}
 
 module _ {K : Type 0} (C : cost.Ghosts K) (task : Task) (acc : Accepted task) (cap : ℕ) where

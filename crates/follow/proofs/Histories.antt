@@ -1,5 +1,5 @@
 -- What a job's history leaves: tables that hold a run which goes on, or has ended in the same way.
-use Rattle.std.proofs.Common.{◌≡◌, ℕ, ◌+◌, ◌<◌, List, length, None, Ok, sym, ap, ◌∙◌, subst, inl, inr, arith}
+use Rattle.std.proofs.Common.{◌≡◌, ℕ, ◌+◌, ◌<◌, List, length, None, Ok, sym, ap, ◌∙◌, subst, inl, inr}
 use Rattle.task.specs.Files.{Bodies, width, move_count, reading, task_of}
 use Rattle.cost.specs.declared.costs.Cost as cost
 use Rattle.store.specs.declared.stores.Store as store
@@ -11,7 +11,7 @@ use Rattle.uniform.specs.Steps as runs
 use Rattle.steps.specs.declared.tables.Tables.{Tables}
 use Rattle.steps.specs.Memories.{Memory, memory}
 use Rattle.steps.specs.Turns.{Ends}
-use Rattle.follow.proofs.Helds.{Held, Ample}
+use Rattle.steps.specs.Holdings.{Held, Ample}
 use Rattle.search.specs.declared.jobs.Searching.{Searching}
 use Rattle.search.specs.declared.jobs.Worked.{Worked}
 use Rattle.search.specs.declared.jobs.Worked.TheVariants as worked
@@ -20,8 +20,8 @@ use Rattle.search.specs.Files.{Suits}
 use Rattle.steps.specs.Begins.{capacity}
 use Rattle.search.specs.Opens.{Opened}
 use Rattle.search.specs.Works.{standing, WorksOn, Works}
-use Rattle.follow.proofs.Followings.{Follows}
-use Rattle.follow.proofs.Lives.{History, opened, went, idle, torn}
+use Rattle.follow.specs.Workings.{Follows}
+use Rattle.follow.specs.Histories.{History, opened, went, idle, torn}
 use Rattle.follow.proofs.Holdings.{as_many}
 use Rattle.follow.proofs.Openings.{opens_hold}
 use Rattle.follow.proofs.Workings.{intact, goes, ends}

@@ -22,12 +22,10 @@ use Rattle.steps.specs.declared.tables.Record.{Record}
 use Rattle.steps.specs.Memories.{Memory, At, width, row_at}
 use Rattle.steps.specs.Steps.{Joined, Stored, Taken, Kept, Sound}
 use Rattle.steps.specs.Steps as steps
-use Rattle.follow.proofs.Helds.{HeldNode, Held, Ample}
+use Rattle.steps.specs.Holdings.{HeldNode, Held, Ample}
 use Rattle.follow.proofs.Shuffles.{shuffled_without, shuffled_push, shuffled_map, in_shuffled}
-use Rattle.steps.proofs.Parts.{row_within, row_below, row_stored}
-use Rattle.steps.proofs.Moves.{at_other}
-use Rattle.chains.proofs.Chains.{nth_reads}
-use Rattle.follow.proofs.Places.{at_set, at_one, written_length, has_in, in_has}
+use Rattle.follow.proofs.Parts.{row_within, row_below, row_stored, written_length}
+use Rattle.follow.proofs.Places.{at_set, at_other, at_one, nth_get_or, has_in, in_has}
 
 -- what stands in a list that is one longer stood there before, or is the last
 last_or : {X : Type 0} (xs : List X) (y x : X) (n : ℕ) → nth (xs ++ y ∷ []) n ≡ Some x → ((n ≡ length xs) × (x ≡ y)) ⊎ ((n < length xs) × (nth xs n ≡ Some x))
@@ -54,13 +52,13 @@ module _ {K : Type 0} (C : cost.Ghosts K) (task : Task) where
       record {
         by = f.0;
         kept = ap (λ z. nth z k) (sym h.kept) ∙ f.1;
-        over = ap (λ z. covers z row) (sym (nth_reads s.kept k f.0 f.1 [])) ∙ c.over;
+        over = ap (λ z. covers z row) (sym (nth_get_or s.kept k f.0 [] f.1)) ∙ c.over;
       }
 
   pub uncovered : (s : Memory K) (r : Run C.arithmetic (regression task)) (row : Row) → Held C task s r → store.Uncovered s.kept row → Uncovered C.arithmetic (regression task) r.kept row
   uncovered s r row h u k c =
       let e : nth s.kept k ≡ Some c.by = ap (λ z. nth z k) h.kept ∙ c.kept in
-      u k (record { below = nth_below s.kept k c.by e; over = ap (λ z. covers z row) (nth_reads s.kept k c.by e []) ∙ c.over })
+      u k (record { below = nth_below s.kept k c.by e; over = ap (λ z. covers z row) (nth_get_or s.kept k c.by [] e) ∙ c.over })
 
   pub held_answered : (s : Memory K) (r : Run C.arithmetic (regression task)) (k : ℕ) → Held C task s r → Held C task (steps.answered s k) (answered C.arithmetic (regression task) r k)
   held_answered s r k h = record {
@@ -131,7 +129,7 @@ module _ {K : Type 0} (C : cost.Ghosts K) (task : Task) where
   pub ample_stored : (cap n m : ℕ) (row : Row) (c : K) (s t : Memory K) → length row ≡ width task → s.stored < cap → Ample C task cap s → Stored C task n m row c s t → Ample C task cap t
   ample_stored cap n m row c s t e lt am k = record {
     short = am.short;
-    bytes = (let l = ap length k.bytes ∙ written_length (width task) s.bytes s.stored row e (row_within s.stored cap (width task) (width task) (length s.bytes) refl lt am.bytes) in omega (arith, am.bytes));
+    bytes = (let l = ap length k.bytes ∙ written_length (width task) s.bytes s.stored row e (row_within s.stored cap (width task) (length s.bytes) lt am.bytes) in omega (arith, am.bytes));
     records = (let l = ap length k.records ∙ length-set s.records s.stored _ in omega (arith, am.records));
     table = k.table ∙ am.table;
     space = subst (λ z. cap ≤ z) (sym k.space) am.space;
@@ -154,7 +152,7 @@ module _ {K : Type 0} (C : cost.Ghosts K) (task : Task) where
       let a = C.arithmetic in
       let p = regression task in
       let y : Node a p = child a p n x m row in
-      let within = row_within s.stored cap (width task) (width task) (length s.bytes) refl lt am.bytes in
+      let within = row_within s.stored cap (width task) (length s.bytes) lt am.bytes in
       let below : s.stored < length s.records = omega (arith, am.records) in
       let note : Record K = record { cost = c; parent = n; step = m } in
       let entry : Entry K = record { cost = c; number = s.stored } in

@@ -1,14 +1,11 @@
 pub mod Shuffles
-pub mod Helds
+pub mod Parts
 pub mod Places
 pub mod Holdings
-pub mod Followings
 pub mod Follows
 pub mod Openings
 pub mod Workings
 pub mod Tasks
-pub mod Lives
-pub mod Statements
 pub mod Histories
 pub mod Chains
 pub mod Promises

@@ -13,12 +13,12 @@ use Rattle.planning.proofs.Lists.{none_some, some_inj}
 use Rattle.uniform.specs.Runs.{root}
 use Rattle.steps.specs.declared.tables.Record.{Record}
 use Rattle.steps.specs.Memories.{Memory, At, width, row_at, written}
-use Rattle.follow.proofs.Helds.{HeldNode}
+use Rattle.steps.specs.Holdings.{HeldNode}
 use Rattle.steps.specs.Begins.{capacity}
-use Rattle.follow.proofs.Followings.{OpensHold}
+use Rattle.follow.specs.Workings.{OpensHold}
 use Rattle.follow.proofs.Shuffles.{shuffled_map}
-use Rattle.steps.proofs.Parts.{row_within, row_stored}
-use Rattle.follow.proofs.Places.{at_set, written_length}
+use Rattle.follow.proofs.Parts.{row_within, row_stored, written_length}
+use Rattle.follow.proofs.Places.{at_set}
 use Rattle.follow.proofs.Holdings.{has_cons}
 
 -- the number of rows that the bytes hold have space in them, and so has any lower number
@@ -71,7 +71,7 @@ module _ {K : Type 0} (C : cost.Ghosts K) (task : Task) where
       let long : length task.goal ≡ width task = sym (both_length _ task.values task.goal acc.goal) in
       let none : 0 * width task ≡ 0 = zero-mul (width task) in
       let eb : t.bytes ≡ written s.bytes (0 * width task) task.goal = b.bytes ∙ ap (λ z. written s.bytes z task.goal) (sym none) in
-      let within : (0 + 1) * width task ≤ length s.bytes = row_within 0 cap (width task) (width task) (length s.bytes) refl pos l.bytes in
+      let within : (0 + 1) * width task ≤ length s.bytes = row_within 0 cap (width task) (length s.bytes) pos l.bytes in
       let entry : Entry K = record { cost = b.cost; number = 0 } in
       let note : Record K = record { cost = b.cost; parent = 0; step = 0 } in
       let first : HeldNode C task t 0 (root a p) = record {

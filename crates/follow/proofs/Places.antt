@@ -1,16 +1,18 @@
 -- What stands at a place, said in the ways of tables and of runs.
-use Rattle.std.proofs.Common.{◌≡◌, ℕ, zero, suc, ◌+◌, ◌*◌, ◌<◌, ◌≤◌, List, [], ◌∷◌, map, length, get_or, set, Some, sym, refl, ap, ◌∙◌, inl, inr, add-mul, one-mul, arith, length-set, get_or-set_same}
-use lib.Seq.{length-paste}
+use Rattle.std.proofs.Common.{◌≡◌, ℕ, zero, suc, ◌<◌, ◌≢◌, List, [], ◌∷◌, map, length, get_or, set, Some, sym, refl, ap, ◌∙◌, inl, inr, arith, length-set, get_or-set_other, get_or-set_same}
 use Rattle.std.specs.List.{ContainsAt as Has}
-use Rattle.rows.specs.Rows.{Row}
 use Rattle.rows.specs.Tasks.{nth}
 use Rattle.planning.specs.Lists.{In}
-use Rattle.planning.proofs.Lists.{nth_some}
-use Rattle.steps.specs.Memories.{At, written}
-use Rattle.chains.proofs.Chains.{nth_reads}
+use Rattle.planning.proofs.Lists.{none_some, some_inj}
+use Rattle.steps.specs.Memories.{At}
 
 pub at_set : {X : Type 0} (xs : List X) (i : ℕ) (a : X) → i < length xs → At (set xs i a) i a
 at_set xs i a h = record { below = simp length-set h; is = get_or-set_same xs i a a h }
+
+pub at_other : {X : Type 0} (xs : List X) (i n : ℕ) (a x : X) → n < i → At xs n x → At (set xs i a) n x
+at_other xs i n a x h at =
+    let ne : n ≢ i = omega arith in
+    record { below = simp length-set at.below; is = get_or-set_other xs i n a x ne ∙ at.is }
 
 -- one element stands at a place
 pub at_one : {X : Type 0} (xs : List X) (n : ℕ) (x y : X) → At xs n x → At xs n y → x ≡ y
@@ -19,13 +21,11 @@ at_one (w ∷ xs) zero x y a b = sym a.is ∙ b.is
 at_one (w ∷ xs) (suc n) x y a b =
     at_one xs n x y (record { below = let z = a.below in omega arith; is = a.is }) (record { below = let z = b.below in omega arith; is = b.is })
 
--- an element that stands at a place is read there
-pub at_nth : {X : Type 0} (xs : List X) (n : ℕ) (x : X) → At xs n x → nth xs n ≡ Some x
-at_nth xs n x a = let s = nth_some xs n a.below in s.1 ∙ ap Some (sym (nth_reads xs n s.0 s.1 x) ∙ a.is)
-
--- bytes keep their length where a row is stored
-pub written_length : (v : ℕ) (bs : List ℕ) (k : ℕ) (r : Row) → length r ≡ v → (k + 1) * v ≤ length bs → length (written bs (k * v) r) ≡ length bs
-written_length v bs k r e b = length-paste bs (k * v) r (length r) (omega (arith, add-mul k 1 v, one-mul v)) (omega arith)
+-- the element at a place, by its default
+pub nth_get_or : {X : Type 0} (xs : List X) (n : ℕ) (x d : X) → nth xs n ≡ Some x → get_or xs n d ≡ x
+nth_get_or [] n x d e = none_some x e
+nth_get_or (y ∷ xs) zero x d e = some_inj y x e
+nth_get_or (y ∷ xs) (suc n) x d e = nth_get_or xs n x d e
 
 -- what a list has, its image has
 pub has_in : {X : Type 0} (f : X → ℕ) (xs : List X) (x : X) → Has xs x → In (f x) (map f xs)

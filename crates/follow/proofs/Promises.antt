@@ -15,25 +15,18 @@ use Rattle.uniform.proofs.Endings.{ends_by}
 use Rattle.uniform.proofs.Alikes.{go_alike}
 use Rattle.steps.specs.declared.tables.Tables.{Tables}
 use Rattle.steps.specs.Memories.{Memory, memory}
-use Rattle.follow.proofs.Helds.{Held, Ample}
-use Rattle.steps.proofs.Tasks.{move_count_lem}
-use Rattle.chains.specs.Chains.{Chain}
-use Rattle.chains.proofs.Chains.{one_chain}
+use Rattle.steps.specs.Holdings.{Held, Ample}
 use Rattle.search.specs.declared.jobs.Searching.{Searching}
-use Rattle.search.specs.declared.jobs.Found.{Found}
-use Rattle.search.specs.declared.jobs.NoPlan.{NoPlan}
-use Rattle.search.specs.declared.jobs.OutOfSpace.{OutOfSpace}
 use Rattle.search.specs.declared.jobs.Worked.{Worked}
 use Rattle.search.specs.declared.jobs.Worked.TheVariants as worked
 use Rattle.search.specs.declared.jobs.Work.TheVariants as work
-use Rattle.search.specs.Files.{Suits, most}
+use Rattle.search.specs.Files.{Suits}
 use Rattle.steps.specs.Begins.{capacity}
 use Rattle.search.specs.Works.{Works}
-use Rattle.search.specs.Readings.{capacity_of}
-use Rattle.follow.proofs.Lives.{History, went}
-use Rattle.follow.proofs.Statements.{Finds, AsDefined, StepsAsDefined, NeverRefused, FoundIsCheapest, NoPlanIsNone, SpaceSuffices, JobsEnd}
-use Rattle.follow.proofs.Tasks.{accepted, read_one}
-use Rattle.follow.proofs.Chains.{chain_of}
+use Rattle.follow.specs.Histories.{History, went, capacity_of, Chain}
+use Rattle.follow.specs.Promises.{most, Finds, AsDefined, StepsAsDefined, NeverRefused, FoundIsCheapest, NoPlanIsNone, SpaceSuffices, JobsEnd}
+use Rattle.follow.proofs.Tasks.{accepted, move_count_lem, read_one}
+use Rattle.follow.proofs.Chains.{chain_unique, chain_of}
 use Rattle.follow.proofs.Histories.{Live, Over, State, state, never_refused}
 
 -- P × M is the same said of the space and of the file
@@ -54,12 +47,12 @@ module _ {K : Type 0} (C : cost.Ghosts K) (file : List ℕ) (b : Bodies) (reads 
   finds : {cap n k : ℕ} {m : Memory K} → OverAt cap n (found k) m → Finds C b m.records k
   finds {cap} {n} {k} {m} o =
       let f = found_cheapest C.arithmetic (regression (task_of b)) law.lawful cap n k o.run o.ends in
-      let c : Chain m.records (move_count b) k f.moves = subst (λ z. Chain m.records z k f.moves) (move_count_lem b) (chain_of C (task_of b) m o.run o.held f.reads) in
+      let c : Chain (move_count b) m.records k f.moves = subst (λ z. Chain z m.records k f.moves) (move_count_lem b) (chain_of C (task_of b) m o.run o.held f.reads) in
       let d = o.held.nodes k f.node f.there in
       record {
         moves = f.moves;
         chain = c;
-        only = λ ms e. one_chain m.records (move_count b) k ms f.moves e c;
+        only = λ ms e. chain_unique e c refl;
         cheapest = best_cheapest C.arithmetic (task_of b) law f.moves f.best;
         noted = d.noted;
         there = d.there;

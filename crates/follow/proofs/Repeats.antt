@@ -11,16 +11,14 @@ use Rattle.uniform.specs.Steps.{Outcome, skipped, expanded, found, no_plan, out_
 use Rattle.uniform.proofs.Goods.{found_cheapest}
 use Rattle.steps.specs.declared.tables.Tables.{Tables}
 use Rattle.steps.specs.Memories.{Memory}
-use Rattle.steps.proofs.Tasks.{move_count_lem}
-use Rattle.chains.specs.Chains.{Chain}
-use Rattle.chains.proofs.Chains.{one_chain}
 use Rattle.search.specs.declared.jobs.Found.{Found}
 use Rattle.search.specs.declared.jobs.NoPlan.{NoPlan}
 use Rattle.search.specs.declared.jobs.Worked.{Worked}
 use Rattle.search.specs.declared.jobs.Worked.TheVariants as worked
-use Rattle.search.specs.Readings.{ended, capacity_of}
-use Rattle.follow.proofs.Statements.{SameFound, Repeatable}
-use Rattle.follow.proofs.Chains.{chain_of}
+use Rattle.follow.specs.Histories.{ended, capacity_of, Chain}
+use Rattle.follow.specs.Promises.{SameFound, Repeatable}
+use Rattle.follow.proofs.Tasks.{move_count_lem}
+use Rattle.follow.proofs.Chains.{chain_unique, chain_of}
 use Rattle.follow.proofs.Histories.{State, state}
 use Rattle.follow.proofs.Promises.{law, OverAt, Both, both, over_at}
 
@@ -41,16 +39,16 @@ found_inj n m e = cc
 module _ {K : Type 0} (C : cost.Ghosts K) (file : List ℕ) (b : Bodies) (reads : reading file ≡ Ok b) where
   -- the same moves are noted
   same_moves : {c d n m k i : ℕ} {x y : Memory K} → (v : OverAt C file b reads c n (found k) x) (w : OverAt C file b reads d m (found i) y) → Both C file b reads n m (found k) (found i) v.run w.run
-      → (ms : List ℕ) → Chain x.records (move_count b) k ms → Chain y.records (move_count b) i ms
+      → (ms : List ℕ) → Chain (move_count b) x.records k ms → Chain (move_count b) y.records i ms
   same_moves {c} {d} {n} {m} {k} {i} {x} {y} v w r ms chain =
       let a = C.arithmetic in
       let p = regression (task_of b) in
       let f = found_cheapest a p (law C file b reads).lawful c n k v.run v.ends in
-      let mine : Chain x.records (move_count b) k f.moves = subst (λ z. Chain x.records z k f.moves) (move_count_lem b) (chain_of C (task_of b) x v.run v.held f.reads) in
-      let is : f.moves ≡ ms = one_chain x.records (move_count b) k f.moves ms mine chain in
+      let mine : Chain (move_count b) x.records k f.moves = subst (λ z. Chain z x.records k f.moves) (move_count_lem b) (chain_of C (task_of b) x v.run v.held f.reads) in
+      let is : f.moves ≡ ms = chain_unique mine chain refl in
       let read : Reads a p w.run.nodes k f.moves = subst (λ z. Reads a p z k f.moves) r.alike.nodes f.reads in
-      let theirs : Chain y.records (move_count b) k f.moves = subst (λ z. Chain y.records z k f.moves) (move_count_lem b) (chain_of C (task_of b) y w.run w.held read) in
-      subst (λ z. Chain y.records (move_count b) z ms) (sym (found_inj i k r.how)) (subst (λ z. Chain y.records (move_count b) k z) is theirs)
+      let theirs : Chain (move_count b) y.records k f.moves = subst (λ z. Chain z y.records k f.moves) (move_count_lem b) (chain_of C (task_of b) y w.run w.held read) in
+      subst (λ z. Chain (move_count b) y.records z ms) (sym (found_inj i k r.how)) (subst (λ z. Chain (move_count b) y.records k z) is theirs)
 
 module _ {K S Q R P : Type 0} (C : cost.Ghosts K) (st : store.Ghosts S) (qu : queue.Ghosts Q K) (st' : store.Ghosts R) (qu' : queue.Ghosts P K) (file : List ℕ) (b : Bodies) (reads : reading file ≡ Ok b) where
   same_found : (s t : Tables K S Q) (s' t' : Tables K R P) (n m : ℕ) (f : Found) (w : Worked) → State C st qu file s n t (worked.Found f) → State C st' qu' file s' m t' w → ended w ≡ true → f.capacity ≤ capacity_of w

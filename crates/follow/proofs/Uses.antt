@@ -16,11 +16,11 @@ use Rattle.uniform.specs.Runs.{Node, Run, root, opened}
 use Rattle.uniform.specs.Steps.{Outcome, found, no_plan, out_of_space, going, unmoved, covered, stored, Upto, none, more, Step, ends, skips, finds, expands, crowds, After, opening, onward, Ends}
 use Rattle.steps.specs.declared.tables.Tables.{Tables}
 use Rattle.steps.specs.Memories.{memory}
-use Rattle.follow.proofs.Helds.{Held}
+use Rattle.steps.specs.Holdings.{Held}
 use Rattle.search.specs.declared.jobs.Worked.{Worked}
 use Rattle.search.specs.declared.jobs.Worked.TheVariants as worked
 use Rattle.steps.specs.Begins.{New}
-use Rattle.follow.proofs.Statements.{AsDefined, AtOnce, OthersUse}
+use Rattle.follow.specs.Promises.{AsDefined, AtOnce, OthersUse}
 use Rattle.follow.proofs.Holdings.{as_many}
 use Rattle.follow.proofs.Promises.{jobs_defined}
 use Rattle.follow.proofs.Repeats.{other, found_inj}

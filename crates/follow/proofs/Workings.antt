@@ -9,8 +9,8 @@ use Rattle.uniform.specs.Steps as run
 use Rattle.steps.specs.Memories.{Memory}
 use Rattle.steps.specs.Steps.{Whole}
 use Rattle.steps.specs.Turns.{Standing, Intact, Goes, still, onward, Ends}
-use Rattle.follow.proofs.Helds.{Held, Ample}
-use Rattle.follow.proofs.Followings.{Follows, WorksAlike}
+use Rattle.steps.specs.Holdings.{Held, Ample}
+use Rattle.follow.specs.Workings.{Follows, WorksAlike}
 use Rattle.follow.proofs.Follows.{steps_alike, never_torn}
 use Rattle.follow.proofs.Holdings.{as_many}
 

@@ -1,6 +1,5 @@
 -- Every list of calls keeps what is promised.
-use Rattle.std.proofs.Common.{◌≡◌, ℕ, ◌+◌, ◌*◌, ◌<◌, ◌≤◌, List, ◌++◌, length, take, drop, None, Ok, Err, Option, sym, refl, ap, ◌∙◌, subst, arith, take_at}
-use Rattle.rows.specs.declared.refusals.Refusal.{Refusal}
+use Rattle.std.proofs.Common.{◌≡◌, ℕ, ◌+◌, ◌*◌, ◌<◌, ◌≤◌, List, ◌++◌, length, take, drop, Ok, Err, sym, refl, ap, ◌∙◌, subst, arith, take_at}
 use Rattle.rows.specs.declared.refusals.Refusal.TheVariants.{Torn, ShortBuffer}
 use Rattle.task.specs.Files.{Bodies, move_count, reading, task_of}
 use Rattle.cost.specs.declared.costs.Cost as cost
@@ -15,15 +14,15 @@ use Rattle.search.specs.declared.jobs.Found.{Found}
 use Rattle.search.specs.declared.jobs.Worked.{Worked}
 use Rattle.search.specs.declared.jobs.Worked.TheVariants as worked
 use Rattle.search.specs.declared.jobs.Work.TheVariants as work
-use Rattle.search.specs.Files.{Suits, most}
+use Rattle.search.specs.Files.{Suits}
 use Rattle.search.specs.Works.{Works}
-use Rattle.search.specs.Reads.{Legible, Unread, PlanRead, ReadsPlan, CostRead, ReadsCost}
-use Rattle.search.specs.Readings.{capacity_of}
-use Rattle.follow.proofs.Lives.{History, went}
-use Rattle.follow.proofs.Statements.{Finds}
+use Rattle.search.specs.Reads.{Legible, PlanRead, ReadsPlan, CostRead}
+use Rattle.follow.specs.Histories.{History, went}
+use Rattle.follow.specs.Promises.{Finds, most}
 use Rattle.follow.proofs.Promises.{jobs_defined, jobs_never_refused, jobs_cheapest, jobs_complete, jobs_roomy, jobs_end}
 use Rattle.promise.specs.Calls.{Job, job, Calls}
 use Rattle.promise.specs.Promises.{Defined, Kept, AlwaysKept}
+use Rattle.promise.proofs.Noted.{noted_chain, chain_noted}
 use Rattle.promise.proofs.Lives.{Life, life, reopened}
 
 -- the moves that were read are in front of the buffer
@@ -45,12 +44,12 @@ module _ {K S Q : Type 0} (C : cost.Ghosts K) (st : store.Ghosts S) (qu : queue.
       suits = suits;
       bytes = subst (λ z. f.capacity * z ≤ length t.rows.now) suits.variables l.ample.bytes;
       records = l.ample.records;
-      chain = subst (λ z. Chain t.records.now z f.node finds.moves) suits.moves (l.there f (move_count b) finds.moves refl finds.chain);
+      chain = subst (λ z. Chain t.records.now z f.node finds.moves) suits.moves (l.there f (move_count b) finds.moves refl (noted_chain finds.chain));
     }
 
     -- whatever plan is read, it is that one
     pub plan_is : (plan : List ℕ) → Legible file f t plan → plan ≡ finds.moves
-    plan_is plan g = finds.only plan (l.back f (move_count b) plan refl (subst (λ z. Chain t.records.now z f.node plan) (sym suits.moves) g.chain))
+    plan_is plan g = finds.only plan (chain_noted (l.back f (move_count b) plan refl (subst (λ z. Chain t.records.now z f.node plan) (sym suits.moves) g.chain)))
 
     read_is : (count : ℕ) (out after : List ℕ) → PlanRead file f t out count after → take count after ≡ finds.moves
     read_is count out after r = front_read r.plan out after count r.counted r.written ∙ plan_is r.plan r.legible

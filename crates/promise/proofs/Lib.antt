@@ -1,3 +1,4 @@
+pub mod Noted
 pub mod Roots
 pub mod Lives
 pub mod Keeps

@@ -1,10 +1,10 @@
 -- The lives of the jobs of a call list: all but the last found node 0 at once, and the last one's history led to the tables.
-use Rattle.std.proofs.Common.{◌≡◌, ℕ, ◌+◌, ◌*◌, ◌<◌, ◌≤◌, true, ◌&&◌, ltb, leb, ◌⊎◌, List, [], ◌∷◌, ◌++◌, length, None, Ok, Option, sym, refl, ap, ◌∙◌, subst, inl, inr, mul-le-mul_right, le-div_iff_mul-le, arith, length-append}
+use Rattle.std.proofs.Common.{◌≡◌, ℕ, ◌<◌, ◌≤◌, ◌&&◌, ltb, leb, ◌⊎◌, List, [], ◌∷◌, ◌++◌, length, None, Ok, Option, sym, refl, ap, ◌∙◌, subst, inl, inr, mul-le-mul_right, le-div_iff_mul-le, arith, length-append}
 use native.Mathlib.Nat.{le-min}
 use Rattle.std.proofs.lemmas.Bool.{and_parts, ltb-true}
 use Rattle.rows.specs.Rows.{valued}
 use Rattle.rows.specs.Tasks.{Task, Accepted}
-use Rattle.task.specs.Files.{Bodies, move_count, reading, task_of}
+use Rattle.task.specs.Files.{Bodies, reading, task_of}
 use Rattle.cost.specs.declared.costs.Cost as cost
 use Rattle.store.specs.declared.stores.Store as store
 use Rattle.queue.specs.declared.queues.Queue as queue
@@ -15,7 +15,7 @@ use Rattle.uniform.specs.Runs.{Run, root}
 use Rattle.steps.specs.declared.tables.Record.{Record}
 use Rattle.steps.specs.declared.tables.Tables.{Tables}
 use Rattle.steps.specs.Memories.{Memory, At, memory, width}
-use Rattle.follow.proofs.Helds.{Held, Ample}
+use Rattle.steps.specs.Holdings.{Held, Ample}
 use Rattle.steps.specs.Begins.{capacity, New}
 use Rattle.chains.specs.Chains.{Chain, done, link}
 use Rattle.search.specs.declared.jobs.Searching.{Searching}
@@ -26,9 +26,8 @@ use Rattle.search.specs.declared.jobs.Work.{Work}
 use Rattle.search.specs.declared.jobs.Work.TheVariants as work
 use Rattle.search.specs.Opens.{Opens}
 use Rattle.search.specs.Works.{Works}
-use Rattle.search.specs.Readings.{capacity_of}
-use Rattle.follow.proofs.Lives.{History, opened, went, idle, torn}
-use Rattle.follow.proofs.Statements.{AtOnce}
+use Rattle.follow.specs.Histories.{History, opened, went, idle, torn, capacity_of}
+use Rattle.follow.specs.Promises.{AtOnce}
 use Rattle.follow.proofs.Places.{at_one}
 use Rattle.follow.proofs.Tasks.{accepted, read_one}
 use Rattle.follow.proofs.Promises.{jobs_defined, jobs_end}

@@ -6,16 +6,15 @@ use Rattle.cost.specs.declared.costs.Cost as cost
 use Rattle.store.specs.declared.stores.Store as store
 use Rattle.queue.specs.declared.queues.Queue as queue
 use Rattle.steps.specs.declared.tables.Tables.{Tables}
-use Rattle.chains.specs.Chains.{Chain}
 use Rattle.search.specs.declared.jobs.Found.{Found}
 use Rattle.search.specs.declared.jobs.Worked.{Worked}
 use Rattle.search.specs.declared.jobs.Worked.TheVariants as worked
-use Rattle.search.specs.Readings.{ended, capacity_of}
 use Rattle.follow.proofs.Repeats.{repeatable}
-use Rattle.promise.specs.Calls.{job, Calls}
+use Rattle.promise.specs.Calls.{job}
 use Rattle.promise.specs.Promises.{Again, AlwaysRepeats}
 use Rattle.promise.proofs.Lives.{Life, life}
 use Rattle.promise.proofs.Keeps.{front_read, finds, plan_is}
+use Rattle.follow.specs.Histories.{ended, capacity_of, Chain}
 
 module _ {K S Q R P : Type 0} (C : cost.Ghosts K) (st : store.Ghosts S) (qu : queue.Ghosts Q K) (st' : store.Ghosts R) (qu' : queue.Ghosts P K) (file : List ℕ) (b : Bodies) (reads : reading file ≡ Ok b) where
   again_found : (t : Tables K S Q) (u : Tables K R P) (n m : ℕ) (f g : Found) → Life C st qu file b reads t (job n (worked.Found f)) → Life C st' qu' file b reads u (job m (worked.Found g)) → f.capacity ≤ g.capacity → Again file t u n m f (worked.Found g)
@@ -25,7 +24,7 @@ module _ {K S Q R P : Type 0} (C : cost.Ghosts K) (st : store.Ghosts S) (qu : qu
       let one : same.job ≡ g = cc in
       let here = finds C st qu file b reads t n f l in
       let there = finds C st' qu' file b reads u m g k in
-      let alike : here.moves ≡ there.moves = there.only here.moves (subst (λ z. Chain k.tables.records.now (move_count b) z.node here.moves) one (same.moves here.moves here.chain)) in
+      let alike : here.moves ≡ there.moves = there.only here.moves (subst (λ z. Chain (move_count b) k.tables.records.now z.node here.moves) one (same.moves here.moves here.chain)) in
       record {
         job = g;
         is = refl;

@@ -1,5 +1,5 @@
 -- Node 0 of a run stays the goal's own node, at the cost of nothing.
-use Rattle.std.proofs.Common.{◌≡◌, ℕ, List, [], ◌∷◌, Some, refl, ◌∙◌}
+use Rattle.std.proofs.Common.{◌≡◌, ℕ, Some, refl, ◌∙◌}
 use Rattle.rows.specs.Tasks.{nth}
 use Rattle.cost.specs.Costs.{Arithmetic}
 use Rattle.planning.specs.Spaces.{Space}

@@ -1,5 +1,5 @@
 -- The promise: what holds of every list of calls, over any kind of cost and any makes of store and queue.
-use Rattle.std.specs.Prelude.{◌≡◌, ℕ, ◌+◌, ◌<◌, ◌≤◌, true, List, length, take, Ok, Err, Option}
+use Rattle.std.specs.Prelude.{◌≡◌, ℕ, ◌+◌, ◌<◌, ◌≤◌, true, List, length, take, Ok, Err}
 use Rattle.rows.specs.declared.refusals.Refusal.{Refusal}
 use Rattle.rows.specs.declared.refusals.Refusal.TheVariants.{Torn}
 use Rattle.task.specs.Files.{Bodies, reading, task_of}
@@ -19,12 +19,13 @@ use Rattle.search.specs.declared.jobs.OutOfSpace.{OutOfSpace}
 use Rattle.search.specs.declared.jobs.Worked.{Worked}
 use Rattle.search.specs.declared.jobs.Worked.TheVariants as worked
 use Rattle.search.specs.declared.jobs.Work.TheVariants as work
-use Rattle.search.specs.Readings.{cover_of, stored_of, ended, capacity_of}
+use Rattle.search.specs.Readings.{cover_of, stored_of}
 use Rattle.search.specs.Opens.{Opens}
 use Rattle.search.specs.Works.{Works}
 use Rattle.search.specs.Reads.{ReadsPlan, ReadsCost}
-use Rattle.search.specs.Files.{most}
 use Rattle.promise.specs.Calls.{Job, job, Calls}
+use Rattle.follow.specs.Histories.{ended, capacity_of}
+use Rattle.follow.specs.Promises.{most}
 
 module _ {K : Type 0} (C : cost.Ghosts K) (b : Bodies) where
   -- a run of the definitions has stored as many nodes as the job says, and its last cover is the job's

@@ -1,12 +1,12 @@
 -- From a file that is read, what reading the plan and the cost of a found job answers.
-use Rattle.std.proofs.Common.{◌≡◌, ℕ, ◌*◌, ◌<◌, ◌≤◌, ◌⊎◌, List, ◌++◌, length, get_or, drop, Ok, Err, Result, sym, refl, ap, ◌∙◌, subst, inl, inr, arith}
+use Rattle.std.proofs.Common.{◌≡◌, ℕ, ◌*◌, ◌<◌, ◌≤◌, List, ◌++◌, length, get_or, drop, Ok, Err, Result, sym, refl, ap, ◌∙◌, subst, inl, inr, arith}
 use Rattle.rows.specs.declared.refusals.Refusal.{Refusal}
 use Rattle.rows.specs.declared.refusals.Refusal.TheVariants.{Torn}
 use Rattle.task.specs.Files.{Bodies, width, move_count, reading}
 use Rattle.planning.proofs.Lists.{nth_some}
 use Rattle.steps.specs.declared.tables.Record.{Record}
 use Rattle.steps.specs.declared.tables.Tables.{Tables}
-use Rattle.chains.specs.Chains.{Chain, Broken, Refused, torn, short}
+use Rattle.chains.specs.Chains.{Chain, Refused, torn, short}
 use Rattle.chains.proofs.Chains.{nth_reads, never_both, one_chain}
 use Rattle.search.specs.declared.jobs.Found.{Found}
 use Rattle.search.specs.Plans.{Serves, PlansOn, Costed, CostsOn}

@@ -1,5 +1,5 @@
 -- From a file that is read, what opening and working answer.
-use Rattle.std.proofs.Common.{◌≡◌, ℕ, ◌<◌, ◌⊎◌, List, None, Ok, Err, Result, sym, refl, ap, ◌∙◌, subst, inl, inr}
+use Rattle.std.proofs.Common.{◌≡◌, ℕ, ◌<◌, List, None, Ok, Err, Result, sym, refl, ◌∙◌, subst, inl, inr}
 use Rattle.rows.specs.declared.refusals.Refusal.{Refusal}
 use Rattle.rows.specs.declared.refusals.Refusal.TheVariants.{BadFile}
 use Rattle.task.specs.declared.faults.Fault.{Fault}

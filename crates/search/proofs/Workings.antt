@@ -1,5 +1,5 @@
 -- Steps of the work, one after the other.
-use Rattle.std.proofs.Common.{◌≡◌, ℕ, ◌+◌, ◌<◌, ◌≤◌, true, false, Ok, Err, sym, refl, ap, ◌∙◌, subst, arith}
+use Rattle.std.proofs.Common.{◌≡◌, ℕ, ◌+◌, ◌<◌, false, Ok, Err, sym, refl, ◌∙◌, subst, arith}
 use Rattle.rows.specs.Tasks.{Task}
 use Rattle.cost.specs.declared.costs.Cost as cost
 use Rattle.store.specs.declared.stores.Store as store
@@ -7,7 +7,7 @@ use Rattle.queue.specs.declared.queues.Queue as queue
 use Rattle.uniform.specs.Steps.{Outcome, going, found, no_plan, out_of_space}
 use Rattle.steps.specs.declared.tables.Tables.{Tables}
 use Rattle.steps.specs.Memories.{Memory, memory}
-use Rattle.steps.specs.Turns.{Standing, Intact, Turn, Known, Goes, still, onward, Ends}
+use Rattle.steps.specs.Turns.{Standing, Intact, Turn, Goes, still, onward, Ends}
 use Rattle.search.specs.declared.jobs.Searching.{Searching}
 use Rattle.search.specs.declared.jobs.Found.{Found}
 use Rattle.search.specs.declared.jobs.NoPlan.{NoPlan}
@@ -15,7 +15,7 @@ use Rattle.search.specs.declared.jobs.OutOfSpace.{OutOfSpace}
 use Rattle.search.specs.declared.jobs.Worked.{Worked}
 use Rattle.search.specs.declared.jobs.Worked.TheVariants as worked
 use Rattle.search.specs.declared.jobs.Work.TheVariants as work
-use Rattle.search.specs.Works.{standing, Same, SameFound, Advanced, WorksOn}
+use Rattle.search.specs.Works.{standing, Same, Advanced, WorksOn, Untouched}
 
 module _ {K S Q : Type 0} (C : cost.Ghosts K) (st : store.Ghosts S) (qu : queue.Ghosts Q K) (task : Task) (from : Searching) (entry : Tables K S Q) where
   -- so many steps of the job that began have led here
@@ -83,8 +83,11 @@ module _ {K S Q : Type 0} (C : cost.Ghosts K) (st : store.Ghosts S) (qu : queue.
         subst (λ z. Same from z) (sym a.0) (record { variables = y.variables; moves = y.moves; capacity = y.capacity }),
         λ o.
             let h = g.goes o in
-            let n = a.2 h.0 in
+            let n = a.1 h.0 in
             let P : Searching → Tables K S Q → Type 0 = λ z u. qu.ordered u.queue × Goes C task from.capacity (standing st qu entry from) i (standing st qu u z) × (Intact C task from.capacity (standing st qu u z) → ⊥) in
-            subst (λ z. P z t) (sym a.0) (subst (λ u. P j u) (sym a.1) (h.0, h.1, λ w. n (subst (λ q. Intact C task q (standing st qu s j)) (sym y.capacity) w))),
-        λ e. (let b = g.start e in (a.0 ∙ b.0, a.1 ∙ b.1)),
+            subst (λ z. P z t) (sym a.0) (subst (λ u. P j u) (sym n.0) (h.0, h.1, λ w. n.1 (subst (λ q. Intact C task q (standing st qu s j)) (sym y.capacity) w))),
       )
+
+  -- and where it was the first step, nothing has changed
+  pub untouched_at : (i : ℕ) (j k : Searching) (s t : Tables K S Q) → Going i s j → Advanced C st qu task j s t (Err k) → t ≡ s → Untouched from entry t (work.Torn k i)
+  untouched_at i j k s t g a u = λ e. (let b = g.start e in (a.0 ∙ b.0, u ∙ b.1))

@@ -1,8 +1,7 @@
 -- The task in a file, as a job sees it.
-use Rattle.std.specs.Prelude.{◌≡◌, ℕ, ◌*◌, List, Ok, Err}
+use Rattle.std.specs.Prelude.{◌≡◌, ℕ, List, Ok, Err}
 use Rattle.task.specs.declared.faults.Fault.{Fault}
 use Rattle.task.specs.Files.{Bodies, width, move_count, reading}
-use Rattle.planning.specs.Regressions.{row_count}
 
 -- the reader refuses the file
 abbrev pub Refused : List ℕ → Type 0
@@ -17,7 +16,3 @@ pub record Suits (file : List ℕ) (v m : ℕ) (b : Bodies) : Type 0 where
 -- the reader refuses the file, or it has other numbers of variables or moves
 abbrev pub Unsuited : List ℕ → ℕ → ℕ → Type 0
 Unsuited file v m = (b : Bodies) → Suits file v m b → ⊥
-
--- P × M: the product over the variables of values + 1, times the number of moves
-abbrev pub most : Bodies → ℕ
-most b = row_count b.values * move_count b

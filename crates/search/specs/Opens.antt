@@ -1,5 +1,5 @@
 -- What opening a job answers, and what it does to the tables.
-use Rattle.std.specs.Prelude.{◌≡◌, ℕ, ◌<◌, List, length, None, Ok, Err, Result}
+use Rattle.std.specs.Prelude.{◌≡◌, ℕ, ◌<◌, List, None, Ok, Err, Result}
 use Rattle.rows.specs.declared.refusals.Refusal.{Refusal}
 use Rattle.rows.specs.declared.refusals.Refusal.TheVariants.{BadFile}
 use Rattle.task.specs.Files.{Bodies, width, move_count, reading, task_of}

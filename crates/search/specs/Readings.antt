@@ -1,5 +1,5 @@
 -- What can be read from a job in any state.
-use Rattle.std.specs.Prelude.{ℕ, Bool, true, false, Option}
+use Rattle.std.specs.Prelude.{ℕ, Option}
 use Rattle.search.specs.declared.jobs.Worked.{Worked}
 use Rattle.search.specs.declared.jobs.Worked.TheVariants.{Searching, Found, NoPlan, OutOfSpace}
 
@@ -14,16 +14,3 @@ stored_of (Searching j) = j.stored
 stored_of (Found j) = j.stored
 stored_of (NoPlan j) = j.stored
 stored_of (OutOfSpace j) = j.stored
-
-abbrev pub capacity_of : Worked → ℕ
-capacity_of (Searching j) = j.capacity
-capacity_of (Found j) = j.capacity
-capacity_of (NoPlan j) = j.capacity
-capacity_of (OutOfSpace j) = j.capacity
-
--- the job has ended
-abbrev pub ended : Worked → Bool
-ended (Searching j) = false
-ended (Found j) = true
-ended (NoPlan j) = true
-ended (OutOfSpace j) = true

@@ -42,11 +42,10 @@ module _ {K S Q : Type 0} (C : cost.Ghosts K) (st : store.Ghosts S) (qu : queue.
       × (qu.ordered s.queue → qu.ordered t.queue × Turn C task j.capacity (standing st qu s j) no_plan (memory st qu t x.stored x.cover))
   Advanced j s t (Ok (worked.OutOfSpace x)) = (x.capacity ≡ j.capacity)
       × (qu.ordered s.queue → qu.ordered t.queue × Turn C task j.capacity (standing st qu s j) out_of_space (memory st qu t x.stored x.cover))
-  Advanced j s t (Err k) = (k ≡ j) × (t ≡ s) × (qu.ordered s.queue → Intact C task j.capacity (standing st qu s j) → ⊥)
+  Advanced j s t (Err k) = (k ≡ j) × (qu.ordered s.queue → (t ≡ s) × (Intact C task j.capacity (standing st qu s j) → ⊥))
 
   -- the steps that are done on the task: as many as the budget where none is the last, else up to the last. Before step n + 1
-  -- the tables may be torn; the n steps before it stand. Where none was done, job and tables are as they were, whatever the order
-  -- inside the queue is
+  -- the tables may be torn; the n steps before it stand
   abbrev pub WorksOn : Searching → ℕ → Tables K S Q → Tables K S Q → Work → Type 0
   WorksOn j b s t (work.Went (worked.Searching k) n) = (n ≡ b) × Same j k
       × (qu.ordered s.queue → qu.ordered t.queue × Goes C task j.capacity (standing st qu s j) n (standing st qu t k))
@@ -59,7 +58,6 @@ module _ {K S Q : Type 0} (C : cost.Ghosts K) (st : store.Ghosts S) (qu : queue.
   WorksOn j b s t (work.Idle k) = ⊥
   WorksOn j b s t (work.Torn k n) = (n < b) × Same j k
       × (qu.ordered s.queue → qu.ordered t.queue × Goes C task j.capacity (standing st qu s j) n (standing st qu t k) × (Intact C task j.capacity (standing st qu t k) → ⊥))
-      × (n ≡ 0 → (k ≡ j) × (t ≡ s))
 
 module _ {K S Q : Type 0} (C : cost.Ghosts K) (st : store.Ghosts S) (qu : queue.Ghosts Q K) where
   -- the bodies have as many variables and moves as those that the job was opened on
@@ -80,3 +78,11 @@ module _ {K S Q : Type 0} (C : cost.Ghosts K) (st : store.Ghosts S) (qu : queue.
   Works file j b s t (work.Torn k n) = (0 < b)
       × ((Unsuited file j.variables j.moves × (n ≡ 0) × (k ≡ j) × (t ≡ s))
       ⊎ ((d : Bodies) × Suits file j.variables j.moves d × WorksOn C st qu (task_of d) j b s t (work.Torn k n)))
+
+module _ {K S Q : Type 0} where
+  -- where no step was done, as after Idle and where the first step finds the tables torn, job and tables are as they were,
+  -- whatever the order inside the queue is
+  abbrev pub Untouched : Searching → Tables K S Q → Tables K S Q → Work → Type 0
+  Untouched j s t (work.Went w n) = Unit {0}
+  Untouched j s t (work.Idle k) = (k ≡ j) × (t ≡ s)
+  Untouched j s t (work.Torn k n) = n ≡ 0 → (k ≡ j) × (t ≡ s)

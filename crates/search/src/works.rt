@@ -1,7 +1,7 @@
-ghost use Rattle.std.specs.Prelude.{◌≡◌, ℕ, ◌+◌, ◌<◌, ◌≤◌, List};
+ghost use Rattle.std.specs.Prelude.{◌≡◌, OnErr, ℕ, ◌+◌, ◌<◌, ◌≤◌, List};
 ghost use Rattle.task.specs.Answers.{held};
 ghost use Rattle.task.specs.Files.{task_of};
-ghost use Rattle.search.specs.Works.{Advanced, WorksOn, WorksSuited, Works};
+ghost use Rattle.search.specs.Works.{Advanced, WorksOn, WorksSuited, Works, Untouched};
 
 use crate::jobs::{Found, NoPlan, OutOfSpace, Searching, Work, Worked};
 use cost::costs::Cost;
@@ -19,7 +19,8 @@ fn advance<K: Cost, S: Store, Q: Queue<K>>(
     accepted: &Accepted<'_>,
     t: &mut Tables<'_, K, S, Q>,
 ) -> Result<Worked, Searching>
-    ensures { Advanced K.Cost S.Store Q.Queue (task_of (held accepted.now.task)) job t.old t.new result }
+    ensures advanced { Advanced K.Cost S.Store Q.Queue (task_of (held accepted.now.task)) job t.old t.new result }
+    ensures unmoved { OnErr result (t.new ≡ t.old) }
 {
     let variables = job.variables;
     let moves = job.moves;
@@ -81,7 +82,8 @@ fn work_on<K: Cost, S: Store, Q: Queue<K>>(
     t: &mut Tables<'_, K, S, Q>,
     budget: u32,
 ) -> Work
-    ensures { WorksOn K.Cost S.Store Q.Queue (task_of (held accepted.now.task)) from budget t.old t.new result }
+    ensures works { WorksOn K.Cost S.Store Q.Queue (task_of (held accepted.now.task)) from budget t.old t.new result }
+    ensures untouched { Untouched from t.old t.new result }
 {
     let mut job = from;
     let mut done = 0u32;
@@ -109,7 +111,8 @@ fn work_suited<K: Cost, S: Store, Q: Queue<K>>(
     t: &mut Tables<'_, K, S, Q>,
     budget: u32,
 ) -> Work
-    ensures { WorksSuited K.Cost S.Store Q.Queue (held accepted.now.task) job budget t.old t.new result }
+    ensures works { WorksSuited K.Cost S.Store Q.Queue (held accepted.now.task) job budget t.old t.new result }
+    ensures untouched { Untouched job t.old t.new result }
 {
     if accepted.task.values.len() != job.variables || accepted.count() != job.moves {
         return Work::Torn(job, 0);
@@ -125,7 +128,8 @@ impl Searching {
         t: &mut Tables<'_, K, S, Q>,
         budget: u32,
     ) -> Work
-        ensures { Works K.Cost S.Store Q.Queue file.now self budget t.old t.new result }
+        ensures works { Works K.Cost S.Store Q.Queue file.now self budget t.old t.new result }
+        ensures untouched { Untouched self t.old t.new result }
     {
         if budget == 0 {
             return Work::Idle(self);

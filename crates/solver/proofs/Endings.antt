@@ -1,5 +1,5 @@
 -- A whole search is made of its calls: neither working nor reading is refused torn, and the budget suffices.
-use Rattle.std.proofs.Common.{◌≡◌, ℕ, ◌+◌, ◌≤◌, ◌⊎◌, List, None, Ok, Err, Result, sym, refl, subst, inl, inr, arith}
+use Rattle.std.proofs.Common.{◌≡◌, ℕ, ◌+◌, List, None, Ok, Err, Result, sym, refl, subst, inl, inr, arith}
 use Rattle.rows.specs.declared.refusals.Refusal.{Refusal}
 use Rattle.cost.specs.declared.costs.Cost as cost
 use Rattle.store.specs.declared.stores.Store as store
@@ -13,8 +13,7 @@ use Rattle.search.specs.declared.jobs.Worked.TheVariants as worked
 use Rattle.search.specs.declared.jobs.Work.TheVariants as work
 use Rattle.search.specs.Opens.{Opens}
 use Rattle.search.specs.Works.{Works}
-use Rattle.search.specs.Reads.{ReadsPlan, ReadsCost}
-use Rattle.follow.proofs.Lives.{opened}
+use Rattle.follow.specs.Histories.{opened}
 use Rattle.follow.proofs.Promises.{jobs_never_refused, jobs_end}
 use Rattle.promise.proofs.Keeps.{legible}
 use Rattle.solver.specs.declared.solutions.Solved.{Solved}

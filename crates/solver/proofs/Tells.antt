@@ -1,5 +1,5 @@
 -- What a whole search answers, in plain terms.
-use Rattle.std.proofs.Common.{◌≡◌, ℕ, ◌+◌, ◌<◌, ◌≤◌, ◌⊎◌, List, [], ◌∷◌, ◌++◌, length, drop, None, Ok, Err, Result, sym, refl, ap, ◌∙◌, subst, inl, inr, arith}
+use Rattle.std.proofs.Common.{◌≡◌, ℕ, ◌+◌, List, [], ◌∷◌, ◌++◌, length, drop, None, Ok, Err, Result, refl, ap, ◌∙◌, subst, inl, inr, arith}
 use Rattle.std.proofs.lemmas.Bool.{cases_lt}
 use Rattle.rows.specs.declared.refusals.Refusal.{Refusal}
 use Rattle.rows.specs.declared.refusals.Refusal.TheVariants.{ShortBuffer}
@@ -26,14 +26,13 @@ use Rattle.search.specs.declared.jobs.Worked.TheVariants as worked
 use Rattle.search.specs.declared.jobs.Work.TheVariants as work
 use Rattle.search.specs.Opens.{Opens}
 use Rattle.search.specs.Reads.{ReadsPlan}
-use Rattle.search.specs.Readings.{capacity_of}
-use Rattle.follow.proofs.Lives.{History, opened, went}
-use Rattle.search.specs.Files.{most}
-use Rattle.follow.proofs.Statements.{Finds}
+use Rattle.follow.specs.Histories.{History, opened, went, capacity_of}
+use Rattle.follow.specs.Promises.{Finds, most}
 use Rattle.follow.proofs.Chains.{chain_of}
 use Rattle.follow.proofs.Tasks.{read_one}
 use Rattle.follow.proofs.Promises.{law, jobs_defined, jobs_complete, jobs_roomy, jobs_end}
 use Rattle.promise.specs.Calls.{job, Calls, none, opens, works}
+use Rattle.promise.proofs.Noted.{noted_chain, chain_noted}
 use Rattle.promise.proofs.Lives.{Life, life}
 use Rattle.promise.proofs.Keeps.{finds, legible, plan_is, cost_is}
 use Rattle.solver.specs.declared.solutions.Solved.{Solved}
@@ -66,8 +65,8 @@ module _ {K S Q : Type 0} (C : cost.Ghosts K) (st : store.Ghosts S) (qu : queue.
         let p = regression (task_of b) in
         let e = capacity_is (worked.Found f) r in
         let c = found_cheapest a p (law C file b reads).lawful f.capacity (0 + r.steps) f.node d.0 d.1 in
-        let chain : Chain t.records.now (move_count b) f.node c.moves = subst (λ z. Chain t.records.now z f.node c.moves) (move_count_lem b) (chain_of C (task_of b) (memory st qu t f.stored f.cover) d.0 d.2 c.reads) in
-        let is : c.moves ≡ (noted f r).moves = (noted f r).only c.moves ((life_of f r).back f (move_count b) c.moves refl chain) in
+        let chain : Chain t.records.now (move_count b) f.node c.moves = subst (λ z. Chain t.records.now z f.node c.moves) (move_count_lem b) (noted_chain (chain_of C (task_of b) (memory st qu t f.stored f.cover) d.0 d.2 c.reads)) in
+        let is : c.moves ≡ (noted f r).moves = (noted f r).only c.moves (chain_noted ((life_of f r).back f (move_count b) c.moves refl chain)) in
         let read : Reads a p d.0.nodes f.node (noted f r).moves = subst (λ z. Reads a p d.0.nodes f.node z) is c.reads in
         record {
           node = f.node;

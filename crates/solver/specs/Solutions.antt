@@ -20,12 +20,13 @@ use Rattle.search.specs.declared.jobs.OutOfSpace.{OutOfSpace}
 use Rattle.search.specs.declared.jobs.Worked.{Worked}
 use Rattle.search.specs.declared.jobs.Worked.TheVariants as worked
 use Rattle.search.specs.declared.jobs.Work.TheVariants as work
-use Rattle.search.specs.Files.{Refused, most}
+use Rattle.search.specs.Files.{Refused}
 use Rattle.search.specs.Opens.{Opens}
 use Rattle.search.specs.Works.{Works}
 use Rattle.search.specs.Reads.{ReadsPlan, ReadsCost}
 use Rattle.solver.specs.declared.solutions.Solved.{Solved}
 use Rattle.solver.specs.declared.solutions.Solved.TheVariants as solved
+use Rattle.follow.specs.Promises.{most}
 
 module _ {K S Q : Type 0} (C : cost.Ghosts K) (st : store.Ghosts S) (qu : queue.Ghosts Q K) (file : List ℕ) where
   -- a job was opened on the tables and worked to its end

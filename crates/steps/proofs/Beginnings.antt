@@ -1,5 +1,5 @@
 -- New tables, and how node 0 is stored in them.
-use Rattle.std.proofs.Common.{◌≡◌, ℕ, ◌*◌, ◌/◌, ◌<◌, ◌≤◌, Bool, true, false, List, [], length, MatchBool, sym, refl, ap, ◌∙◌, subst, mul-le-mul_right, one-mul, zero-mul, div-mul-le_self, arith}
+use Rattle.std.proofs.Common.{◌≡◌, ℕ, ◌*◌, ◌/◌, ◌<◌, ◌≤◌, Bool, true, false, List, length, MatchBool, sym, ◌∙◌, subst, mul-le-mul_right, zero-mul, div-mul-le_self, arith}
 use Rattle.rows.specs.Rows.{Row}
 use Rattle.rows.specs.Tasks.{Task}
 use Rattle.steps.specs.Memories.{Memory, written}

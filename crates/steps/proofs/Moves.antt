@@ -1,5 +1,5 @@
 -- What one move keeps.
-use Rattle.std.proofs.Common.{◌≡◌, ℕ, ◌+◌, ◌*◌, ◌<◌, ◌≤◌, true, false, ◌≢◌, List, [], ◌∷◌, length, get_or, set, Some, None, Option, sym, refl, ap, ◌∙◌, subst, add-mul, one-mul, arith, length-set, get_or-set_other}
+use Rattle.std.proofs.Common.{◌≡◌, ℕ, ◌+◌, ◌*◌, ◌<◌, ◌≤◌, true, false, ◌≢◌, List, ◌∷◌, length, get_or, set, Some, None, Option, sym, refl, ap, ◌∙◌, subst, add-mul, one-mul, arith, length-set, get_or-set_other}
 use lib.Seq.{length-paste}
 use Rattle.std.proofs.lemmas.List.Sorted.{length_permutation}
 use Rattle.queue.specs.declared.entries.Entry.{Entry}
@@ -12,7 +12,7 @@ use Rattle.planning.specs.Plans.{price}
 use Rattle.steps.specs.declared.tables.Record.{Record}
 use Rattle.steps.specs.Memories.{Memory, At, width, row_at, written}
 use Rattle.steps.specs.Steps.{back, Joined, Stored, One, unmoved, covered, stores}
-use Rattle.steps.specs.Answers.{Fit, Ready}
+use Rattle.steps.specs.Answers.{Ready}
 use Rattle.steps.proofs.Parts.{row_below, row_within, length_written}
 use Rattle.steps.proofs.Tasks.{back_fits, fits_length}
 

@@ -1,7 +1,7 @@
 -- Rows among bytes.
-use Rattle.std.proofs.Common.{◌≡◌, ℕ, ◌+◌, ◌-◌, ◌*◌, ◌<◌, ◌≤◌, List, [], ◌∷◌, ◌++◌, length, get_or, take, drop, sym, refl, ap, ◌∙◌, subst, mul-le-mul_right, add-mul, one-mul, arith, length-drop, length-take, length-take-le, take-take, take_at, drop_at, rules}
+use Rattle.std.proofs.Common.{◌≡◌, ℕ, ◌+◌, ◌-◌, ◌*◌, ◌<◌, ◌≤◌, List, ◌++◌, length, take, drop, sym, ap, ◌∙◌, subst, mul-le-mul_right, add-mul, one-mul, arith, length-drop, length-take-le, take-take, drop_at}
 use lib.Seq.{length-paste, take-append-le, length_paste_head, take-paste, take-length}
-use Rattle.std.proofs.lemmas.Slice.{overwrites, between_is}
+use Rattle.std.proofs.lemmas.Slice.{between_is}
 use Rattle.rows.specs.Rows.{Row}
 use Rattle.steps.specs.Memories.{row_at, written}
 

@@ -12,7 +12,7 @@ use Rattle.steps.specs.declared.numbers.Progress.{Progress}
 use Rattle.steps.specs.declared.tables.Tables.{Tables}
 use Rattle.steps.specs.Memories.{memory, width, row_at}
 use Rattle.steps.specs.Steps.{back, One, covered}
-use Rattle.steps.specs.Answers.{Ready, Moved, MoveGranted, MoveCounts, Grown}
+use Rattle.steps.specs.Answers.{Ready, Moved, MoveGranted, MoveCounts}
 use Rattle.steps.specs.Results.{Fresh, Admits}
 use Rattle.steps.proofs.Moves.{ready_one}
 

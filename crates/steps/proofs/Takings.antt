@@ -1,5 +1,5 @@
 -- From a taking and a visit, a step.
-use Rattle.std.proofs.Common.{◌≡◌, ℕ, ◌+◌, ◌*◌, ◌<◌, ◌≤◌, true, List, [], ◌∷◌, length, Ok, Err, Result, sym, refl, ap, ◌∙◌, subst, arith}
+use Rattle.std.proofs.Common.{◌≡◌, ℕ, ◌+◌, ◌*◌, ◌<◌, ◌≤◌, true, List, ◌∷◌, length, Ok, Err, Result, sym, ap, ◌∙◌, subst, arith}
 use Rattle.std.proofs.lemmas.List.Sorted.{length_permutation}
 use Rattle.rows.specs.declared.refusals.Refusal.{Refusal}
 use Rattle.rows.specs.Rows.{fits}
@@ -8,14 +8,13 @@ use Rattle.cost.specs.declared.costs.Cost as cost
 use Rattle.store.specs.declared.stores.Store as store
 use Rattle.queue.specs.declared.entries.Entry.{Entry}
 use Rattle.queue.specs.declared.queues.Queue as queue
-use Rattle.queue.specs.Orders.{Names}
 use Rattle.steps.specs.declared.numbers.Progress.{Progress}
 use Rattle.steps.specs.declared.outcomes.Visited.{Visited}
 use Rattle.steps.specs.declared.outcomes.Visited.TheVariants as visited
 use Rattle.steps.specs.declared.tables.Tables.{Tables}
 use Rattle.steps.specs.Memories.{Memory, memory, At, width, row_at}
-use Rattle.steps.specs.Steps.{Taken, Visit, Step, takes, Sized, Sound}
-use Rattle.steps.specs.Answers.{Fit, Steady, Eager, Visits, Takes, outcome, after, VisitCounts, TakeCounts}
+use Rattle.steps.specs.Steps.{Taken, Visit, takes, Sized, Sound}
+use Rattle.steps.specs.Answers.{Steady, Eager, Visits, Takes, outcome, after, VisitCounts, TakeCounts}
 
 module _ {K : Type 0} (C : cost.Ghosts K) (task : Task) (cap : ℕ) where
   pub steady_taken : {n : ℕ} {e : Entry K} {s t : Memory K} → Eager C task cap n s → Taken C task e s t → Steady C task cap n t

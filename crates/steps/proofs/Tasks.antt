@@ -1,8 +1,8 @@
 -- The task in accepted bodies, and its moves as they are read from there.
-use Rattle.std.proofs.Common.{◌≡◌, ℕ, zero, suc, ◌+◌, ◌<◌, ◌≤◌, Bool, true, false, cond, ◌&&◌, ltb, leb, List, [], ◌∷◌, map, length, Some, None, Option, sym, refl, ap, ◌∙◌, subst, arith}
+use Rattle.std.proofs.Common.{◌≡◌, ℕ, zero, suc, ◌+◌, ◌<◌, ◌≤◌, Bool, true, false, ◌&&◌, ltb, leb, List, map, length, Some, None, Option, sym, refl, ap, ◌∙◌, subst, arith}
 use Rattle.std.proofs.lemmas.Bool.{and_parts, and_from, leb-true}
 use Rattle.std.specs.List.{range_with_len}
-use Rattle.rows.specs.Rows.{Row, Move, fits_at, fits, complete, valued, usable, pulled}
+use Rattle.rows.specs.Rows.{Row, Move, fits_at, fits, complete, valued, pulled}
 use Rattle.rows.specs.Calls.{Placing, placing, even}
 use Rattle.rows.specs.Tasks.{Task, nth, MoveFits, Accepted}
 use Rattle.rows.proofs.Both.{both_length}

@@ -1,22 +1,17 @@
 -- What a visit needs and keeps.
-use Rattle.std.proofs.Common.{◌≡◌, ℕ, ◌+◌, ◌*◌, ◌<◌, ◌≤◌, true, false, List, [], ◌∷◌, ◌++◌, length, Ok, Err, Result, sym, refl, ap, ◌∙◌, subst, arith, length-append}
-use Rattle.std.proofs.lemmas.List.Sorted.{length_permutation}
-use Rattle.rows.specs.declared.refusals.Refusal.{Refusal}
-use Rattle.rows.specs.declared.refusals.Refusal.TheVariants.{Stub, Contents, Count, Position, Price, Name, BadFile, NoSpace, Used, Idle, Torn, ShortBuffer, Full, Misfit, Long, Known}
+use Rattle.std.proofs.Common.{◌≡◌, ℕ, ◌*◌, ◌<◌, ◌≤◌, true, false, List, [], ◌∷◌, ◌++◌, length, Ok, sym, ap, ◌∙◌, subst, arith, length-append}
 use Rattle.rows.specs.Rows.{Row, covers, fits}
 use Rattle.rows.specs.Tasks.{Task}
 use Rattle.cost.specs.declared.costs.Cost as cost
 use Rattle.store.specs.declared.stores.Store as store
-use Rattle.store.specs.Stores.{CoverAt, Uncovered, KeepRefused}
-use Rattle.store.proofs.Known.{only_full}
-use Rattle.queue.specs.declared.entries.Entry.{Entry}
+use Rattle.store.specs.Stores.{Uncovered}
 use Rattle.queue.specs.declared.queues.Queue as queue
 use Rattle.steps.specs.declared.numbers.Progress.{Progress}
 use Rattle.steps.specs.declared.outcomes.Expansion.{Expansion}
 use Rattle.steps.specs.declared.outcomes.Expansion.TheVariants as expansion
 use Rattle.steps.specs.declared.tables.Tables.{Tables}
 use Rattle.steps.specs.Memories.{Memory, memory, At, width, row_at}
-use Rattle.steps.specs.Steps.{Kept, Sound, expands, crowds}
+use Rattle.steps.specs.Steps.{Kept, expands, crowds}
 use Rattle.steps.specs.declared.outcomes.Visited.{Visited}
 use Rattle.steps.specs.Answers.{Fit, Ready, Steady, Expands, Visits, told, Grown, Spread, ExpandCounts, VisitCounts}
 

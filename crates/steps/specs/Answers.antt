@@ -3,15 +3,14 @@
 -- Three things are said of each: what holds of the counts whatever the order inside the queue is; that tables that are ready for
 -- it refuse nothing, whatever that order is; and, where the queue is in order, too, which relation holds between the tables before
 -- and after.
-use Rattle.std.specs.Prelude.{◌≡◌, ℕ, ◌+◌, ◌*◌, ◌<◌, ◌≤◌, true, List, [], length, Some, None, Ok, Err, Option, Result}
+use Rattle.std.specs.Prelude.{◌≡◌, ℕ, ◌+◌, ◌*◌, ◌<◌, ◌≤◌, [], length, Some, None, Ok, Err, Option, Result}
 use Rattle.rows.specs.declared.refusals.Refusal.{Refusal}
-use Rattle.rows.specs.Rows.{fits}
 use Rattle.rows.specs.Tasks.{Task}
 use Rattle.cost.specs.declared.costs.Cost as cost
 use Rattle.store.specs.declared.stores.Store as store
 use Rattle.queue.specs.declared.queues.Queue as queue
 use Rattle.queue.specs.Orders.{Names}
-use Rattle.uniform.specs.Steps.{Outcome, skipped, expanded, found, no_plan, out_of_space}
+use Rattle.uniform.specs.Steps.{Outcome, skipped, expanded, found, out_of_space}
 use Rattle.steps.specs.declared.numbers.Progress.{Progress}
 use Rattle.steps.specs.declared.outcomes.Expansion.{Expansion}
 use Rattle.steps.specs.declared.outcomes.Expansion.TheVariants as expansion
@@ -19,9 +18,8 @@ use Rattle.steps.specs.declared.outcomes.Look.{Look}
 use Rattle.steps.specs.declared.outcomes.Look.TheVariants as seen
 use Rattle.steps.specs.declared.outcomes.Visited.{Visited}
 use Rattle.steps.specs.declared.outcomes.Visited.TheVariants as visited
-use Rattle.steps.specs.declared.tables.Record.{Record}
 use Rattle.steps.specs.declared.tables.Tables.{Tables}
-use Rattle.steps.specs.Memories.{Memory, memory, At, width, row_at}
+use Rattle.steps.specs.Memories.{Memory, memory, width}
 use Rattle.steps.specs.Steps.{Sound, One, Crowded, Upto, Visit, Step, Sized, Whole}
 
 module _ {K : Type 0} (C : cost.Ghosts K) (task : Task) (cap : ℕ) where
@@ -54,12 +52,12 @@ module _ {K S Q : Type 0} (C : cost.Ghosts K) (st : store.Ghosts S) (qu : queue.
   abbrev pub Moved : ℕ → Tables K S Q → Progress → Tables K S Q → Result (Option Progress) Refusal → Type 0
   Moved m s p t (Ok (Some q)) = qu.ordered t.queue × One C task cap n m (memory st qu s p.stored p.cover) (memory st qu t q.stored q.cover)
   Moved m s p t (Ok None) = Crowded C task cap n m (memory st qu s p.stored p.cover)
-  Moved m s p t (Err e) = Unit {0}
+  Moved m s p t (Err e) = ⊥
 
   abbrev pub Expands : Tables K S Q → Progress → Tables K S Q → Result Expansion Refusal → Type 0
   Expands s p t (Ok (expansion.Done q)) = qu.ordered t.queue × Upto C task cap n (memory st qu s p.stored p.cover) (length task.moves) (memory st qu t q.stored q.cover)
   Expands s p t (Ok (expansion.Crowded q)) = qu.ordered t.queue × ((m : ℕ) × (m < length task.moves) × Upto C task cap n (memory st qu s p.stored p.cover) m (memory st qu t q.stored q.cover) × Crowded C task cap n m (memory st qu t q.stored q.cover))
-  Expands s p t (Err e) = Unit {0}
+  Expands s p t (Err e) = ⊥
 
   -- from tables that are ready: nothing is refused, and they are still ready for the next move
   abbrev pub MoveGranted : Tables K S Q → Result (Option Progress) Refusal → Type 0
@@ -92,11 +90,11 @@ after p (visited.Crowded q) = q
 module _ {K S Q : Type 0} (C : cost.Ghosts K) (st : store.Ghosts S) (qu : queue.Ghosts Q K) (task : Task) (cap n : ℕ) where
   abbrev pub Visits : Tables K S Q → Progress → Tables K S Q → Result Visited Refusal → Type 0
   Visits s p t (Ok w) = qu.ordered t.queue × Visit C task cap n (memory st qu s p.stored p.cover) (outcome w) (memory st qu t (after p w).stored (after p w).cover)
-  Visits s p t (Err e) = Unit {0}
+  Visits s p t (Err e) = ⊥
 
   abbrev pub Takes : Tables K S Q → Progress → Tables K S Q → Result Visited Refusal → Type 0
   Takes s p t (Ok w) = qu.ordered t.queue × Step C task cap (memory st qu s p.stored p.cover) (outcome w) (memory st qu t (after p w).stored (after p w).cover)
-  Takes s p t (Err e) = Unit {0}
+  Takes s p t (Err e) = ⊥
 
 -- the counts
 module _ {K S Q : Type 0} (st : store.Ghosts S) (qu : queue.Ghosts Q K) (cap : ℕ) where

@@ -1,5 +1,5 @@
 -- How a job's tables are before it is opened, and what opening does to them.
-use Rattle.std.specs.Prelude.{◌≡◌, ℕ, ◌/◌, ◌<◌, min, List, [], length, None, Ok, Err, Result, slice_set}
+use Rattle.std.specs.Prelude.{◌≡◌, ℕ, ◌/◌, ◌<◌, min, [], length, None, Ok, Err, Result, slice_set}
 use Rattle.rows.specs.declared.refusals.Refusal.{Refusal}
 use Rattle.rows.specs.declared.refusals.Refusal.TheVariants.{Used, NoSpace}
 use Rattle.rows.specs.Tasks.{Task}

@@ -4,3 +4,4 @@ pub mod Steps
 pub mod Answers
 pub mod Results
 pub mod Turns
+pub mod Holdings

@@ -1,6 +1,6 @@
 -- What one step does to the tables, as a relation, for any tables. Nothing is open but the rank among several covers and the
 -- entry removed among ties in cost and number.
-use Rattle.std.specs.Prelude.{◌≡◌, ℕ, ◌+◌, ◌*◌, ◌<◌, ◌≤◌, true, false, List, [], ◌∷◌, ◌++◌, length, Some, None, Option, slice_set}
+use Rattle.std.specs.Prelude.{◌≡◌, ℕ, ◌+◌, ◌*◌, ◌<◌, ◌≤◌, true, false, [], ◌∷◌, ◌++◌, length, Some, None, Option, slice_set}
 use Rattle.rows.specs.Rows.{Row, covers, fits}
 use Rattle.rows.specs.Tasks.{Task, nth}
 use Rattle.cost.specs.declared.costs.Cost as cost

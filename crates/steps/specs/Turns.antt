@@ -1,5 +1,5 @@
 -- Turns of the work: before each step the tables are looked at, and a step is done only from tables that are not torn.
-use Rattle.std.specs.Prelude.{◌≡◌, ℕ, ◌+◌, ◌<◌, ◌≤◌, true, false, length, Option}
+use Rattle.std.specs.Prelude.{◌≡◌, ℕ, ◌+◌, ◌<◌, ◌≤◌, true, false, length}
 use Rattle.rows.specs.Tasks.{Task}
 use Rattle.cost.specs.declared.costs.Cost as cost
 use Rattle.store.specs.declared.stores.Store as store
@@ -53,18 +53,27 @@ module _ {K : Type 0} (C : cost.Ghosts K) (task : Task) (cap : ℕ) where
 module _ {K S Q : Type 0} (C : cost.Ghosts K) (st : store.Ghosts S) (qu : queue.Ghosts Q K) (task : Task) where
   -- what a turn answers: a step, or that the tables are torn
   abbrev pub Turns : Numbers → Tables K S Q → Tables K S Q → Turned → Type 0
-  Turns j s t turned.Torn = Intact C task j.capacity (standing st qu s j) → ⊥
+  Turns j s t turned.Torn = (t ≡ s) × (Intact C task j.capacity (standing st qu s j) → ⊥)
   Turns j s t (turned.Onward k) =
       qu.ordered t.queue × ((o : Outcome) × (going o ≡ true) × Turn C task j.capacity (standing st qu s j) o (memory st qu t k.stored k.cover))
   Turns j s t (turned.Found n) = qu.ordered t.queue × Turn C task j.capacity (standing st qu s j) (found n) (memory st qu t j.stored j.cover)
-  Turns j s t turned.NoPlan = Turn C task j.capacity (standing st qu s j) no_plan (memory st qu s j.stored j.cover)
+  Turns j s t turned.NoPlan = (t ≡ s) × Turn C task j.capacity (standing st qu s j) no_plan (memory st qu s j.stored j.cover)
   Turns j s t (turned.OutOfSpace p) = qu.ordered t.queue × Turn C task j.capacity (standing st qu s j) out_of_space (memory st qu t p.stored p.cover)
 
-  -- what holds whatever the order inside the queue is: torn tables are left as they were, the capacity stays, a job that goes on
-  -- knows how full the tables are, a found node is stored, and no more nodes are than the capacity
-  abbrev pub Counts : Numbers → Tables K S Q → Tables K S Q → Turned → Type 0
-  Counts j s t turned.Torn = t ≡ s
-  Counts j s t (turned.Onward k) = (k.capacity ≡ j.capacity) × Known C task j.capacity (standing st qu t k)
-  Counts j s t (turned.Found n) = n < j.stored
-  Counts j s t turned.NoPlan = t ≡ s
-  Counts j s t (turned.OutOfSpace p) = p.stored ≤ j.capacity
+  -- what holds of the counts whatever the order inside the queue is: the capacity stays, a job that goes on knows how full the
+  -- tables are, a found node is stored, and no more nodes are than the capacity
+  abbrev pub Counts : Numbers → Tables K S Q → Turned → Type 0
+  Counts j t turned.Torn = Unit {0}
+  Counts j t (turned.Onward k) = (k.capacity ≡ j.capacity) × Known C task j.capacity (standing st qu t k)
+  Counts j t (turned.Found n) = n < j.stored
+  Counts j t turned.NoPlan = Unit {0}
+  Counts j t (turned.OutOfSpace p) = p.stored ≤ j.capacity
+
+module _ {K S Q : Type 0} where
+  -- torn tables, and tables in which nothing waits, are left as they were, whatever the order inside the queue is
+  abbrev pub Unmoved : Tables K S Q → Tables K S Q → Turned → Type 0
+  Unmoved s t turned.Torn = t ≡ s
+  Unmoved s t (turned.Onward k) = Unit {0}
+  Unmoved s t (turned.Found n) = Unit {0}
+  Unmoved s t turned.NoPlan = t ≡ s
+  Unmoved s t (turned.OutOfSpace p) = Unit {0}

@@ -6,7 +6,7 @@ ghost use Rattle.steps.specs.Memories.{memory, width};
 ghost use Rattle.steps.specs.Steps.{Sound, Sized};
 ghost use Rattle.steps.specs.Answers.{Ready, Steady, Eager, Granted, Moved, MoveGranted, MoveCounts, Expands, ExpandCounts, Visits, VisitCounts, Takes, TakeCounts, Looks, Looked};
 ghost use Rattle.steps.specs.Results.{Adds, Admits};
-ghost use Rattle.steps.specs.Turns.{Turns, Counts};
+ghost use Rattle.steps.specs.Turns.{Turns, Counts, Unmoved};
 
 use crate::numbers::{Numbers, Progress, Turned};
 use crate::outcomes::{Expansion, Look, Met, Visited};
@@ -302,7 +302,8 @@ fn turn_in<K: Cost, S: Store, Q: Queue<K>>(
     job: Numbers,
 ) -> Turned
     requires { length scratch.old ≡ width (task_of (held accepted.now.task)) }
-    ensures counts { Counts K.Cost S.Store Q.Queue (task_of (held accepted.now.task)) job t.old t.new result }
+    ensures counts { Counts K.Cost S.Store Q.Queue (task_of (held accepted.now.task)) job t.new result }
+    ensures unmoved { Unmoved t.old t.new result }
     ensures turns { Q.Queue.ordered t.old.queue → Turns K.Cost S.Store Q.Queue (task_of (held accepted.now.task)) job t.old t.new result }
 {
     let capacity = job.capacity;
@@ -346,7 +347,8 @@ pub fn turn<K: Cost, S: Store, Q: Queue<K>>(
     t: &mut Tables<'_, K, S, Q>,
     job: Numbers,
 ) -> Turned
-    ensures counts { Counts K.Cost S.Store Q.Queue (task_of (held accepted.now.task)) job t.old t.new result }
+    ensures counts { Counts K.Cost S.Store Q.Queue (task_of (held accepted.now.task)) job t.new result }
+    ensures unmoved { Unmoved t.old t.new result }
     ensures turns { Q.Queue.ordered t.old.queue → Turns K.Cost S.Store Q.Queue (task_of (held accepted.now.task)) job t.old t.new result }
 {
     let mut scratch = [0u8; 64];

@@ -1,7 +1,7 @@
-use Rattle.std.proofs.Common.{◌++◌, length, refl, ap, ◌∙◌, arith}
+use Rattle.std.proofs.Common.{◌++◌, length, refl, ap, arith}
 use Rattle.task.specs.Answers.{held}
-use Rattle.device.specs.Texts.{newline, name_lines}
-use Rattle.device.proofs.Places.{placed_none, placed_then, placed_as, names_left, none_left, names_more, names_all, length_line}
+use Rattle.device.specs.Texts.{newline}
+use Rattle.device.proofs.Places.{placed_none, placed_then, placed_as, names_left, names_more, names_all, length_line}
 use Rattle.device.proofs.put_names.Goals as goal
 
 pub loop-k-init : goal.loop-k-init

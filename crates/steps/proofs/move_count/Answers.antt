@@ -1,4 +1,4 @@
-use Rattle.std.proofs.Common.{sym, ◌∙◌, arith}
+use Rattle.std.proofs.Common.{arith}
 use Rattle.task.specs.Answers.{held}
 use Rattle.task.proofs.Judgings.{counted}
 use Rattle.steps.proofs.Tasks.{move_count_lem}

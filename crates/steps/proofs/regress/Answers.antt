@@ -1,4 +1,4 @@
-use Rattle.std.proofs.Common.{◌≡◌, sym, refl, ap, ◌∙◌, subst}
+use Rattle.std.proofs.Common.{◌∙◌}
 use Rattle.task.specs.Answers.{held}
 use Rattle.steps.proofs.Tasks.{accepted_task, no_step, step_back, step_price, step_even, placed_yes, placed_no}
 use Rattle.steps.proofs.regress.Goals as goal

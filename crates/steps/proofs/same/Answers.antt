@@ -1,4 +1,4 @@
-use Rattle.std.proofs.Common.{◌≡◌, Bool, true, false, Decides, MatchBool, refl}
+use Rattle.std.proofs.Common.{Bool, true, false, Decides, MatchBool, refl}
 use Rattle.std.proofs.lemmas.Slice.Eq.{slice_eq-Decides}
 use Rattle.std.proofs.lemmas.Bool.{both_ways}
 use Rattle.steps.proofs.same.Goals as goal

@@ -1,7 +1,6 @@
-use Rattle.std.proofs.Common.{◌≡◌, ◌/◌, ◌<◌, ◌≤◌, min, length, sym, refl, ap, ◌∙◌, subst, arith}
+use Rattle.std.proofs.Common.{length, refl, ap, subst, arith}
 use Rattle.queue.specs.Orders.{Added}
 use Rattle.task.specs.Answers.{held}
-use Rattle.task.specs.Files.{task_of}
 use Rattle.task.proofs.Judgings.{counted}
 use Rattle.steps.proofs.Beginnings.{one_row, at_front}
 use Rattle.steps.proofs.begins.begin.Goals as goal

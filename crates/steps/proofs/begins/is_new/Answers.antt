@@ -1,4 +1,4 @@
-use Rattle.std.proofs.Common.{◌≡◌, None, sym, refl, ap, ◌∙◌, subst, arith}
+use Rattle.std.proofs.Common.{None, arith}
 use Rattle.task.specs.Answers.{held}
 use Rattle.task.specs.Files.{task_of}
 use Rattle.steps.specs.Memories.{memory}

@@ -1,4 +1,4 @@
-use Rattle.std.proofs.Common.{◌≡◌, ◌+◌, ◌*◌, ◌<◌, ◌≤◌, List, ◌∷◌, length, sym, refl, ap, ◌∙◌, subst, arith, length-set}
+use Rattle.std.proofs.Common.{◌+◌, List, ◌∷◌, length, refl, ap, ◌∙◌, arith, length-set}
 use Rattle.std.proofs.lemmas.List.Sorted.{IsPermutation-refl}
 use Rattle.queue.specs.declared.entries.Entry.{Entry}
 use Rattle.queue.specs.Orders.{Added}
@@ -22,16 +22,13 @@ returns-then-p-cap g c = record {
 }
 
 pub returns-in-Err : goal.returns-in-Err
-returns-in-Err g c = record {
-  counts = tt;
-  bytes = refl;
-  records = refl;
-  moved = λ task f o rd. tt;
-  granted = λ task f rd.
-      let le = fair_price task c.args.met.step _ _ f.accepted f.moved in
-      let e = ap g.K.Cost.joins (c.cost_at.ensures rd.fit.sound.noted ∙ ap (λ r. r.cost) rd.fit.sound.there.is) in
-      c.in-Err.ensures (omega (arith, f.priced, le)) (omega (arith, e, rd.fit.sound.joins, rd.fit.sound.node, rd.fit.within, rd.fit.short));
-}
+returns-in-Err g c =
+    let none = λ (task : Task) (f : Fresh task c.args.met c.args.row.now (memory g.S.Store g.Q.Queue c.args.t.now c.args.p.stored c.args.p.cover))
+    (rd : Ready g.K.Cost task c.args.cap c.args.met.parent (memory g.S.Store g.Q.Queue c.args.t.now c.args.p.stored c.args.p.cover)).
+    let le = fair_price task c.args.met.step _ _ f.accepted f.moved in
+    let e = ap g.K.Cost.joins (c.cost_at.ensures rd.fit.sound.noted ∙ ap (λ r. r.cost) rd.fit.sound.there.is) in
+    c.in-Err.ensures (omega (arith, f.priced, le)) (omega (arith, e, rd.fit.sound.joins, rd.fit.sound.node, rd.fit.within, rd.fit.short)) in
+    record { counts = tt; bytes = refl; records = refl; granted = none; moved = λ task f o rd. none task f rd }
 
 pub grow-requires : goal.grow-requires
 grow-requires g c = record {
@@ -45,8 +42,8 @@ returns-in-Err-grow g c = record {
   counts = tt;
   bytes = grown_length _ _ c.args.p.stored c.args.cap _ c.args.row.now refl c.if-p-cap.false c.requires.bytes c.grow.ensures.bytes;
   records = ap length c.grow.ensures.records ∙ simp length-set;
-  moved = λ task f o rd. tt;
   granted = λ task f rd. omega (arith, rd.roomy, c.if-p-cap.false, c.in-Err-grow.ensures.count);
+  moved = λ task f o rd. omega (arith, rd.roomy, c.if-p-cap.false, c.in-Err-grow.ensures.count);
 }
 
 pub returns-in-Ok-grow : goal.returns-in-Ok-grow

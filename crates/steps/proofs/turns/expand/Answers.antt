@@ -1,10 +1,10 @@
-use Rattle.std.proofs.Common.{◌≡◌, ◌+◌, ◌≤◌, length, sym, refl, ap, ◌∙◌, subst, arith}
+use Rattle.std.proofs.Common.{◌≡◌, length, sym, refl, ◌∙◌, subst, arith}
 use Rattle.task.specs.Answers.{held}
 use Rattle.task.specs.Files.{task_of}
 use Rattle.steps.specs.Memories.{memory}
 use Rattle.steps.specs.Steps.{Upto, none, more}
 use Rattle.steps.specs.Answers.{Grown}
-use Rattle.steps.proofs.Tasks.{accepted_task, move_count_lem}
+use Rattle.steps.proofs.Tasks.{accepted_task}
 use Rattle.steps.proofs.Moves.{ready_one}
 use Rattle.steps.proofs.Expansions.{counts_some, counts_none, grown_then, granted_some, moved_some, moved_none, crowded_at}
 use Rattle.steps.proofs.turns.expand.Goals as goal
@@ -36,7 +36,7 @@ returns-in-Err g c =
       bytes = c.expand_move.ensures.bytes ∙ i.1;
       records = c.expand_move.ensures.records ∙ i.2;
       granted = λ rd. c.in-Err.ensures.granted (i.4 rd);
-      expands = λ o rd. tt;
+      expands = λ o rd. c.in-Err.ensures.granted (i.4 rd);
     }
 
 pub returns-in-None : goal.returns-in-None

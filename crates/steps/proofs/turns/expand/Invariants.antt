@@ -1,6 +1,6 @@
-use Rattle.std.proofs.Common.{◌≡◌, ◌<◌, ◌≤◌, length}
+use Rattle.std.proofs.Common.{◌≡◌, length}
 use Rattle.task.specs.Answers.{held}
-use Rattle.task.specs.Files.{task_of, move_count}
+use Rattle.task.specs.Files.{task_of}
 use Rattle.steps.specs.Memories.{memory}
 use Rattle.steps.specs.Steps.{Upto}
 use Rattle.steps.specs.Answers.{Ready, Grown}

@@ -45,7 +45,7 @@ returns-in-Err g c =
       counts = tt;
       bytes = refl;
       records = refl;
-      moved = λ o rd. tt;
+      moved = λ o rd. never_misfit task c.args.m _ _ _ (accepted_task (held a.task) a.counted a.positioned a.priced) rd.fit.table rd.fit.sound.fit at c.in-Err.ensures.1;
       granted = λ rd. never_misfit task c.args.m _ _ _ (accepted_task (held a.task) a.counted a.positioned a.priced) rd.fit.table rd.fit.sound.fit at c.in-Err.ensures.1;
     }
 

@@ -1,4 +1,4 @@
-use Rattle.std.proofs.Common.{◌≡◌, length, sym, refl, ap, ◌∙◌, subst, mul-le-mul_right, arith}
+use Rattle.std.proofs.Common.{length, ap, ◌∙◌, subst, mul-le-mul_right, arith}
 use Rattle.task.specs.Answers.{held}
 use Rattle.task.specs.Files.{task_of}
 use Rattle.steps.specs.Memories.{memory, width}

@@ -1,4 +1,4 @@
-use Rattle.std.proofs.Common.{◌≡◌, sym, refl, ap, ◌∙◌, subst}
+use Rattle.std.proofs.Common.{refl, ◌∙◌}
 use Rattle.task.specs.Answers.{held}
 use Rattle.task.specs.Files.{task_of}
 use Rattle.steps.specs.declared.tables.Tables.{Tables}

@@ -1,4 +1,4 @@
-use Rattle.std.proofs.Common.{◌≡◌, ℕ, ◌+◌, ◌-◌, ◌<◌, ◌≤◌, sym, refl, ap, ◌∙◌, subst, arith}
+use Rattle.std.proofs.Common.{◌+◌, sym, refl, ap, ◌∙◌, arith}
 use Rattle.task.specs.Answers.{held}
 use Rattle.task.specs.Files.{task_of}
 use Rattle.uniform.specs.Steps.{skipped, expanded}
@@ -8,8 +8,9 @@ use Rattle.steps.proofs.turns.turn_in.Goals as goal
 
 pub returns-in-Empty : goal.returns-in-Empty
 returns-in-Empty g c = record {
-  counts = refl;
-  turns = λ o. let w = c.in-Empty.ensures.looks o in record { whole = w.0; step = ends w.1 };
+  counts = tt;
+  unmoved = refl;
+  turns = λ o. let w = c.in-Empty.ensures.looks o in (refl, record { whole = w.0; step = ends w.1 });
 }
 
 pub returns-in-Skipped : goal.returns-in-Skipped
@@ -20,6 +21,7 @@ returns-in-Skipped g c =
     let k = counts_at g.S.Store g.Q.Queue job.capacity c.args.t.now c.step.new.t (record { stored = job.stored; cover = job.cover }) c.in-Ok.visited _ c.in-Skipped.is c.in-Ok.ensures.counts in
     record {
       counts = (refl, record { keeps = sym (k.1 ∙ b.0.keeps); waits = omega (arith, k.2, b.0.waits, b.1) });
+      unmoved = tt;
       turns = λ o.
           let w = c.in-Least.ensures.looks o in
           let eg = eager g.K.Cost task job.capacity b.0 b.2 job.within job.short job.counted b.1 in
@@ -35,6 +37,7 @@ returns-in-Expanded g c =
     let k = counts_at g.S.Store g.Q.Queue job.capacity c.args.t.now c.step.new.t (record { stored = job.stored; cover = job.cover }) c.in-Ok.visited _ c.in-Expanded.is c.in-Ok.ensures.counts in
     record {
       counts = (refl, record { keeps = sym (k.2 ∙ ap (λ z. z + 1) b.0.keeps); waits = omega (arith, k.0, k.3, b.0.waits, b.1) });
+      unmoved = tt;
       turns = λ o.
           let w = c.in-Least.ensures.looks o in
           let eg = eager g.K.Cost task job.capacity b.0 b.2 job.within job.short job.counted b.1 in
@@ -49,6 +52,7 @@ returns-in-Found g c =
     let b = c.in-Least.ensures.looked in
     record {
       counts = counts_at g.S.Store g.Q.Queue job.capacity c.args.t.now c.step.new.t (record { stored = job.stored; cover = job.cover }) c.in-Ok.visited _ c.in-Found.is c.in-Ok.ensures.counts;
+      unmoved = tt;
       turns = λ o.
           let w = c.in-Least.ensures.looks o in
           let eg = eager g.K.Cost task job.capacity b.0 b.2 job.within job.short job.counted b.1 in
@@ -63,6 +67,7 @@ returns-in-Crowded g c =
     let b = c.in-Least.ensures.looked in
     record {
       counts = counts_at g.S.Store g.Q.Queue job.capacity c.args.t.now c.step.new.t (record { stored = job.stored; cover = job.cover }) c.in-Ok.visited _ c.in-Crowded.is c.in-Ok.ensures.counts;
+      unmoved = tt;
       turns = λ o.
           let w = c.in-Least.ensures.looks o in
           let eg = eager g.K.Cost task job.capacity b.0 b.2 job.within job.short job.counted b.1 in
@@ -76,4 +81,4 @@ returns-in-Err g c =
     let job = c.args.job in
     let b = c.in-Least.ensures.looked in
     let none : ⊥ = c.in-Err.ensures.granted (omega (arith, b.0.waits, b.1)) (eager g.K.Cost task job.capacity b.0 b.2 job.within job.short job.counted b.1) in
-    record { counts = absurd none; turns = λ o. absurd none }
+    record { counts = tt; unmoved = absurd none; turns = λ o. absurd none }

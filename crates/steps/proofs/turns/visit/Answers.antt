@@ -1,5 +1,5 @@
-use Rattle.std.proofs.Common.{◌≡◌, ℕ, ◌+◌, ◌<◌, ◌≤◌, true, false, List, [], ◌∷◌, ◌++◌, sym, refl, ap, ◌∙◌, subst, arith}
-use Rattle.rows.specs.Rows.{Row, covers, fits}
+use Rattle.std.proofs.Common.{[], ◌∷◌, ◌++◌, sym, refl, ap, ◌∙◌, subst, arith}
+use Rattle.rows.specs.Rows.{covers}
 use Rattle.store.specs.Stores.{CoverAt, Uncovered}
 use Rattle.store.proofs.Known.{only_full, not_held}
 use Rattle.task.specs.Answers.{held}
@@ -8,6 +8,7 @@ use Rattle.task.proofs.Judgings.{counted}
 use Rattle.steps.specs.declared.tables.Tables.{Tables}
 use Rattle.steps.specs.Memories.{memory}
 use Rattle.steps.specs.Steps.{skips, finds, Kept}
+use Rattle.steps.specs.Answers.{Steady}
 use Rattle.steps.proofs.Parts.{row_within}
 use Rattle.steps.proofs.Moves.{found_some, found_none}
 use Rattle.steps.proofs.Visits.{fetched, ready_kept, visits_told, counts_told}
@@ -39,24 +40,22 @@ returns-in-Some g c =
     }
 
 pub returns-in-Err-keep : goal.returns-in-Err-keep
-returns-in-Err-keep g c = record {
-  counts = tt;
-  visits = λ o sd. tt;
-  granted = λ sd.
-      let u = found_none c.in-None.is c.in-Ok.ensures.1 in
-      let f = only_full _ _ _ _ c.in-Err-keep.e c.in-Ok.ensures.0 (not_held _ _ u) c.in-Err-keep.ensures.answer.1 in
-      omega (arith, f.1, sd.spare);
-}
+returns-in-Err-keep g c =
+    let u = found_none c.in-None.is c.in-Ok.ensures.1 in
+    let f = only_full _ _ _ _ c.in-Err-keep.e c.in-Ok.ensures.0 (not_held _ _ u) c.in-Err-keep.ensures.answer.1 in
+    record {
+      counts = tt;
+      granted = λ sd. omega (arith, f.1, sd.spare);
+      visits = λ o sd. omega (arith, f.1, sd.spare);
+    }
 
 pub returns-in-Err-expand : goal.returns-in-Err-expand
 returns-in-Err-expand g c =
     let task = task_of (held c.args.accepted.now.task) in
-    record {
-      counts = tt;
-      visits = λ o sd. tt;
-      granted = λ sd. c.in-Err-expand.ensures.granted (ready_kept g.K.Cost task c.args.cap {r = c.fetch.new.out} {s = memory g.S.Store g.Q.Queue c.args.t.now c.args.p.stored c.args.p.cover} sd
-          (record { kept = c.in-Ok-keep.ensures.answer.3; bytes = refl; records = refl; table = c.keep.ensures.values; space = c.keep.ensures.space; waiting = refl; room = refl; stored = refl; cover = refl }));
-    }
+    let none = λ (sd : Steady g.K.Cost task c.args.cap c.args.n (memory g.S.Store g.Q.Queue c.args.t.now c.args.p.stored c.args.p.cover)).
+    c.in-Err-expand.ensures.granted (ready_kept g.K.Cost task c.args.cap {r = c.fetch.new.out} {s = memory g.S.Store g.Q.Queue c.args.t.now c.args.p.stored c.args.p.cover} sd
+    (record { kept = c.in-Ok-keep.ensures.answer.3; bytes = refl; records = refl; table = c.keep.ensures.values; space = c.keep.ensures.space; waiting = refl; room = refl; stored = refl; cover = refl })) in
+    record { counts = tt; granted = λ sd. none sd; visits = λ o sd. none sd }
 
 pub returns-in-Ok-expand : goal.returns-in-Ok-expand
 returns-in-Ok-expand g c =

@@ -9,5 +9,5 @@ invariant_of-work_suited g c =
     let j = (read_parts c.args.file.now (held c.in-Ok.task) c.in-Ok.ensures.reading).judged in
     record { counted = j.counted; positioned = j.positioned; priced = j.priced; named = j.named }
 
-pub returns-in-Ok : goal.returns-in-Ok
-returns-in-Ok g c = works_on g.K.Cost g.S.Store g.Q.Queue c.args.file.now (held c.in-Ok.task) c.args.self c.args.budget c.args.t.now c.work_suited.new.t c.work_suited.result (omega (arith, c.if-budget-eq0.false)) c.in-Ok.ensures.reading c.work_suited.ensures
+pub returns-in-Ok-clause-works : goal.returns-in-Ok-clause-works
+returns-in-Ok-clause-works g c = works_on g.K.Cost g.S.Store g.Q.Queue c.args.file.now (held c.in-Ok.task) c.args.self c.args.budget c.args.t.now c.work_suited.new.t c.work_suited.result (omega (arith, c.if-budget-eq0.false)) c.in-Ok.ensures.reading c.work_suited.ensures.works

@@ -1,5 +1,5 @@
 -- What opening and working make of tables, said of the run that they hold.
-use Rattle.std.proofs.Common.{ℕ, ◌+◌, ◌<◌}
+use Rattle.std.specs.Prelude.{ℕ, ◌+◌, ◌<◌}
 use Rattle.rows.specs.Tasks.{Task, Accepted}
 use Rattle.cost.specs.declared.costs.Cost as cost
 use Rattle.planning.specs.Regressions.{regression}
@@ -8,7 +8,7 @@ use Rattle.uniform.specs.Steps.{Outcome, After}
 use Rattle.uniform.specs.Steps as run
 use Rattle.steps.specs.Memories.{Memory}
 use Rattle.steps.specs.Turns.{Standing, Intact, Known, Goes, Ends}
-use Rattle.follow.proofs.Helds.{Held, Ample}
+use Rattle.steps.specs.Holdings.{Held, Ample}
 use Rattle.steps.specs.Begins.{capacity, New, Began}
 
 module _ {K : Type 0} (C : cost.Ghosts K) (task : Task) where

@@ -1,19 +1,18 @@
--- What is shown of every job, by its history.
-use Rattle.std.proofs.Common.{◌≡◌, ℕ, ◌+◌, ◌<◌, ◌≤◌, true, List, None, Ok}
+-- What is promised of every job, by its history.
+use Rattle.std.specs.Prelude.{◌≡◌, ℕ, ◌+◌, ◌*◌, ◌<◌, ◌≤◌, true, List, None, Ok}
 use Rattle.rows.specs.Rows.{covers}
 use Rattle.task.specs.Files.{Bodies, move_count, reading, task_of}
 use Rattle.cost.specs.declared.costs.Cost as cost
 use Rattle.store.specs.declared.stores.Store as store
 use Rattle.queue.specs.declared.queues.Queue as queue
 use Rattle.planning.specs.Plans.{Plan, plan_cost, Cheapest}
-use Rattle.planning.specs.Regressions.{regression}
+use Rattle.planning.specs.Regressions.{regression, row_count}
 use Rattle.uniform.specs.Runs.{Run}
 use Rattle.uniform.specs.Steps.{found, no_plan, out_of_space, After, Ends}
 use Rattle.steps.specs.declared.tables.Record.{Record}
 use Rattle.steps.specs.declared.tables.Tables.{Tables}
 use Rattle.steps.specs.Memories.{At, memory}
-use Rattle.follow.proofs.Helds.{Held, Ample}
-use Rattle.chains.specs.Chains.{Chain}
+use Rattle.steps.specs.Holdings.{Held, Ample}
 use Rattle.search.specs.declared.jobs.Searching.{Searching}
 use Rattle.search.specs.declared.jobs.Found.{Found}
 use Rattle.search.specs.declared.jobs.NoPlan.{NoPlan}
@@ -21,17 +20,20 @@ use Rattle.search.specs.declared.jobs.OutOfSpace.{OutOfSpace}
 use Rattle.search.specs.declared.jobs.Worked.{Worked}
 use Rattle.search.specs.declared.jobs.Worked.TheVariants as worked
 use Rattle.search.specs.declared.jobs.Work.TheVariants as work
-use Rattle.search.specs.Files.{Suits, most}
-use Rattle.search.specs.Readings.{capacity_of, ended}
+use Rattle.search.specs.Files.{Suits}
 use Rattle.steps.specs.Begins.{capacity, New}
 use Rattle.search.specs.Works.{Works}
-use Rattle.follow.proofs.Lives.{History}
+use Rattle.follow.specs.Histories.{History, ended, capacity_of, Chain}
+
+-- P × M: the product over the variables of values + 1, times the number of moves
+abbrev pub most : Bodies → ℕ
+most b = row_count b.values * move_count b
 
 -- the moves noted from node n are a cheapest plan of the task, no others are noted from it, and its cost is that plan's
 pub record Finds {K : Type 0} (C : cost.Ghosts K) (b : Bodies) (records : List (Record K)) (n : ℕ) : Type 0 where
   pub moves : List ℕ
-  pub chain : Chain records (move_count b) n moves
-  pub only : (ms : List ℕ) → Chain records (move_count b) n ms → ms ≡ moves
+  pub chain : Chain (move_count b) records n moves
+  pub only : (ms : List ℕ) → Chain (move_count b) records n ms → ms ≡ moves
   pub cheapest : Cheapest C.arithmetic (task_of b) moves
   pub noted : Record K
   pub there : At records n noted
@@ -98,7 +100,7 @@ pub record SameFound {K : Type 0} (b : Bodies) (records others : List (Record K)
   pub steps : m ≡ n
   pub node : job.node ≡ f.node
   pub stored : job.stored ≡ f.stored
-  pub moves : (ms : List ℕ) → Chain records (move_count b) f.node ms → Chain others (move_count b) job.node ms
+  pub moves : (ms : List ℕ) → Chain (move_count b) records f.node ms → Chain (move_count b) others job.node ms
 
 module _ {K S Q R P : Type 0} (C : cost.Ghosts K) (st : store.Ghosts S) (qu : queue.Ghosts Q K) (st' : store.Ghosts R) (qu' : queue.Ghosts P K) where
   -- two jobs on the same file, in other tables of other makes: where the one of the lower capacity found a node, the other, once

@@ -1,0 +1,3 @@
+pub mod Workings
+pub mod Histories
+pub mod Promises
