@@ -2,7 +2,7 @@ ghost use Rattle.std.specs.Prelude.{◌≡◌, ℕ, ◌<◌, ◌≤◌, List, []
 ghost use Rattle.task.specs.Answers.{held};
 ghost use Rattle.task.specs.Files.{reading};
 ghost use Rattle.device.specs.Texts.{Puts};
-ghost use Rattle.device.specs.Answers.{longest, Tells, Shows, OneText, CostMeans, NoneMeans, SpaceMeans, Enough};
+ghost use Rattle.device.specs.Answers.{longest, Tells, Shows, OneText, CostMeans, NoneMeans, SpaceMeans, Enough, most};
 ghost use Rattle.device.specs.Searches.{Searched};
 ghost use Rattle.store.specs.Stores.{space_of};
 
@@ -124,7 +124,14 @@ fn search(
 pub const LONGEST: usize = 32_768;
 
 // The bytes that suffice for every answer.
-pub const ANSWER: usize = 41_962;
+const ANSWER: usize = 41_962;
+
+// How many bytes suffice for every answer: with as many, `answer` refuses nothing.
+pub fn longest_answer() -> usize
+    ensures { result ≡ most }
+{
+    ANSWER
+}
 
 // Whether an input is longer than what is read.
 fn is_too_long(input: &[u8]) -> bool

@@ -6,7 +6,7 @@ ghost use Rattle.device.specs.Texts.{newline, name_of, name_lines, cost_line, pl
 
 mod answers;
 
-pub use answers::{ANSWER, LONGEST, answer};
+pub use answers::{LONGEST, answer, longest_answer};
 use rows::refusals::Refusal;
 use task::accepted::Accepted;
 

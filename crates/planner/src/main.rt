@@ -1,6 +1,6 @@
 #![tactic(auto)]
 
-use device::{ANSWER, LONGEST, answer};
+use device::{LONGEST, answer, longest_answer};
 use std::alloc::Global;
 use std::io;
 use std::io::{Read, Write};
@@ -28,7 +28,7 @@ fn first_bytes(rt: &HostRuntime, heap: Global) -> io::Result<Vec<u8>> {
 fn main(rt: HostRuntime) -> io::Result<()> {
     let heap = rt.alloc();
     let input = first_bytes(&rt, heap)?;
-    let mut text = vec![in heap; 0; ANSWER]?;
+    let mut text = vec![in heap; 0; longest_answer()]?;
     match answer(input.as_slice(), text.as_mut_slice()) {
         Ok(n) => rt.stdout().write_all(&text[0..n]),
         Err(_) => Ok(()),
