@@ -1,9 +1,8 @@
 pub mod Tasks
 pub mod Parts
 pub mod Moves
-pub mod Results
-pub mod Expansions
-pub mod Visits
 pub mod Leasts
-pub mod Takings
 pub mod Beginnings
+pub mod Additions
+pub mod Readies
+pub mod Takings

@@ -1,20 +1,21 @@
--- From a taking and a visit, a step.
+-- What taking an entry keeps, and the step that it begins.
 use Rattle.std.proofs.Common.{◌≡◌, ℕ, ◌+◌, ◌*◌, ◌<◌, ◌≤◌, true, List, ◌∷◌, length, Ok, Err, Result, sym, ap, ◌∙◌, subst, arith}
 use Rattle.std.proofs.lemmas.List.Sorted.{length_permutation}
-use Rattle.rows.specs.declared.refusals.Refusal.{Refusal}
 use Rattle.rows.specs.Rows.{fits}
 use Rattle.rows.specs.Tasks.{Task}
 use Rattle.cost.specs.declared.costs.Cost as cost
-use Rattle.store.specs.declared.stores.Store as store
 use Rattle.queue.specs.declared.entries.Entry.{Entry}
+use Rattle.store.specs.declared.stores.Store as store
 use Rattle.queue.specs.declared.queues.Queue as queue
-use Rattle.steps.specs.declared.numbers.Progress.{Progress}
+use Rattle.uniform.specs.Steps.{out_of_space}
+use Rattle.steps.specs.declared.outcomes.Stop.{Stop}
+use Rattle.steps.specs.declared.outcomes.Stop.TheVariants.{Torn, Crowded}
 use Rattle.steps.specs.declared.outcomes.Visited.{Visited}
-use Rattle.steps.specs.declared.outcomes.Visited.TheVariants as visited
-use Rattle.steps.specs.declared.tables.Tables.{Tables}
-use Rattle.steps.specs.Memories.{Memory, memory, At, width, row_at}
+use Rattle.steps.specs.declared.workspaces.Workspace.{Workspace}
+use Rattle.steps.specs.Memories.{Memory, At, width, row_at}
 use Rattle.steps.specs.Steps.{Taken, Visit, takes, Sized, Sound}
-use Rattle.steps.specs.Answers.{Steady, Eager, Visits, Takes, outcome, after, VisitCounts, TakeCounts}
+use Rattle.steps.specs.Answers.{Steady, Eager, mem, task_in, Lent, outcome, Visits, Takes}
+use Rattle.steps.proofs.Additions.{lent_at}
 
 module _ {K : Type 0} (C : cost.Ghosts K) (task : Task) (cap : ℕ) where
   pub steady_taken : {n : ℕ} {e : Entry K} {s t : Memory K} → Eager C task cap n s → Taken C task e s t → Steady C task cap n t
@@ -64,24 +65,14 @@ module _ {K : Type 0} (C : cost.Ghosts K) (task : Task) (cap : ℕ) where
     spare = omega (arith, z.keeps, z.space);
   }
 
-module _ {K S Q : Type 0} (C : cost.Ghosts K) (st : store.Ghosts S) (qu : queue.Ghosts Q K) (task : Task) (cap n : ℕ) where
-  pub takes_visit : (s mid t : Tables K S Q) (p : Progress) (e : Entry K) (r : Result Visited Refusal) → n ≡ e.number → Taken C task e (memory st qu s p.stored p.cover) (memory st qu mid p.stored p.cover)
-      → Visits C st qu task cap n mid p t r → Takes C st qu task cap n s p t r
-  takes_visit s mid t p e (Ok w) en tk v = (v.0, takes tk (subst (λ z. Visit C task cap z (memory st qu mid p.stored p.cover) (outcome w) (memory st qu t (after p w).stored (after p w).cover)) en v.1))
-  takes_visit s mid t p e (Err x) en tk v = v
-
-module _ {K S Q : Type 0} (st : store.Ghosts S) (qu : queue.Ghosts Q K) (cap : ℕ) where
-  pub take_counts : (s mid t : Tables K S Q) (p : Progress) (r : Result Visited Refusal) → mid.store ≡ s.store → length (qu.entries mid.queue) + 1 ≡ length (qu.entries s.queue)
-      → VisitCounts st qu cap mid p t r → TakeCounts st qu cap s p t r
-  take_counts s mid t p (Ok (visited.Skipped q)) e l h = (h.stored, h.keeps ∙ ap (λ z. length (st.kept z)) e, ap (λ z. z + 1) h.waits ∙ l)
-  take_counts s mid t p (Ok (visited.Expanded q)) e l h = (h.more, h.within, h.keeps ∙ ap (λ z. length (st.kept z) + 1) e, omega (arith, h.waits, l))
-  take_counts s mid t p (Ok (visited.Found n)) e l h = h
-  take_counts s mid t p (Ok (visited.Crowded q)) e l h = h.within
-  take_counts s mid t p (Err x) e l h = tt
-
-  pub counts_at : (s t : Tables K S Q) (p : Progress) (x w : Visited) → x ≡ w → TakeCounts st qu cap s p t (Ok x) → TakeCounts st qu cap s p t (Ok w)
-  counts_at s t p x w e h = subst (λ z. TakeCounts st qu cap s p t (Ok z)) e h
-
-module _ {K S Q : Type 0} (C : cost.Ghosts K) (st : store.Ghosts S) (qu : queue.Ghosts Q K) (task : Task) (cap n : ℕ) where
-  pub takes_at : (s t : Tables K S Q) (p : Progress) (x w : Visited) → x ≡ w → Takes C st qu task cap n s p t (Ok x) → Takes C st qu task cap n s p t (Ok w)
-  takes_at s t p x w e h = subst (λ z. Takes C st qu task cap n s p t (Ok z)) e h
+module _ {K S Q : Type 0} (C : cost.Ghosts K) (st : store.Ghosts S) (qu : queue.Ghosts Q K) where
+  -- from a taking and a visit, a step
+  pub takes_visit : (w mid v : Workspace K S Q) (e : Entry K) (r : Result Visited Stop) → Lent w mid → w.node ≡ e.number → Taken C (task_in w) e (mem st qu w) (mem st qu mid)
+      → Visits C st qu mid v r → Takes C st qu w v r
+  takes_visit w mid v e (Ok x) l en tk h =
+      let u = lent_at w mid (λ task cap n. Visit C task cap n (mem st qu mid) (outcome n x) (mem st qu v)) l h.1 in
+      (h.0, takes tk (subst (λ z. Visit C (task_in w) w.progress.capacity z (mem st qu mid) (outcome w.node x) (mem st qu v)) en u))
+  takes_visit w mid v e (Err Crowded) l en tk h =
+      let u = lent_at w mid (λ task cap n. Visit C task cap n (mem st qu mid) out_of_space (mem st qu v)) l h.1 in
+      (h.0, takes tk (subst (λ z. Visit C (task_in w) w.progress.capacity z (mem st qu mid) out_of_space (mem st qu v)) en u))
+  takes_visit w mid v e (Err Torn) l en tk h = h

@@ -5,21 +5,21 @@
 -- and after.
 use Rattle.std.specs.Prelude.{◌≡◌, ℕ, ◌+◌, ◌*◌, ◌<◌, ◌≤◌, [], length, Some, None, Ok, Err, Option, Result}
 use Rattle.rows.specs.declared.refusals.Refusal.{Refusal}
+use Rattle.rows.specs.declared.refusals.Refusal.TheVariants.{Torn}
 use Rattle.rows.specs.Tasks.{Task}
+use Rattle.task.specs.Answers.{held}
+use Rattle.task.specs.Files.{task_of}
 use Rattle.cost.specs.declared.costs.Cost as cost
 use Rattle.store.specs.declared.stores.Store as store
 use Rattle.queue.specs.declared.queues.Queue as queue
 use Rattle.queue.specs.Orders.{Names}
 use Rattle.uniform.specs.Steps.{Outcome, skipped, expanded, found, out_of_space}
-use Rattle.steps.specs.declared.numbers.Progress.{Progress}
-use Rattle.steps.specs.declared.outcomes.Expansion.{Expansion}
-use Rattle.steps.specs.declared.outcomes.Expansion.TheVariants as expansion
-use Rattle.steps.specs.declared.outcomes.Look.{Look}
-use Rattle.steps.specs.declared.outcomes.Look.TheVariants as seen
+use Rattle.steps.specs.declared.outcomes.Stop.{Stop}
+use Rattle.steps.specs.declared.outcomes.Stop.TheVariants as stop
 use Rattle.steps.specs.declared.outcomes.Visited.{Visited}
 use Rattle.steps.specs.declared.outcomes.Visited.TheVariants as visited
-use Rattle.steps.specs.declared.tables.Tables.{Tables}
-use Rattle.steps.specs.Memories.{Memory, memory, width}
+use Rattle.steps.specs.declared.workspaces.Workspace.{Workspace}
+use Rattle.steps.specs.Memories.{Memory, width}
 use Rattle.steps.specs.Steps.{Sound, One, Crowded, Upto, Visit, Step, Sized, Whole}
 
 module _ {K : Type 0} (C : cost.Ghosts K) (task : Task) (cap : ℕ) where
@@ -48,109 +48,141 @@ module _ {K : Type 0} (C : cost.Ghosts K) (task : Task) (cap : ℕ) where
     pub roomy : length s.waiting + cap ≤ s.room + s.stored + 1
     pub spare : length s.kept < s.space
 
-module _ {K S Q : Type 0} (C : cost.Ghosts K) (st : store.Ghosts S) (qu : queue.Ghosts Q K) (task : Task) (cap n : ℕ) where
-  abbrev pub Moved : ℕ → Tables K S Q → Progress → Tables K S Q → Result (Option Progress) Refusal → Type 0
-  Moved m s p t (Ok (Some q)) = qu.ordered t.queue × One C task cap n m (memory st qu s p.stored p.cover) (memory st qu t q.stored q.cover)
-  Moved m s p t (Ok None) = Crowded C task cap n m (memory st qu s p.stored p.cover)
-  Moved m s p t (Err e) = ⊥
+module _ {K S Q : Type 0} where
+  abbrev pub task_in : Workspace K S Q → Task
+  task_in w = task_of (held w.accepted.task)
 
-  abbrev pub Expands : Tables K S Q → Progress → Tables K S Q → Result Expansion Refusal → Type 0
-  Expands s p t (Ok (expansion.Done q)) = qu.ordered t.queue × Upto C task cap n (memory st qu s p.stored p.cover) (length task.moves) (memory st qu t q.stored q.cover)
-  Expands s p t (Ok (expansion.Crowded q)) = qu.ordered t.queue × ((m : ℕ) × (m < length task.moves) × Upto C task cap n (memory st qu s p.stored p.cover) m (memory st qu t q.stored q.cover) × Crowded C task cap n m (memory st qu t q.stored q.cover))
-  Expands s p t (Err e) = ⊥
+  -- the same task, node and capacity, over the same lent memory
+  pub record Lent (w v : Workspace K S Q) : Type 0 where
+    pub accepted : v.accepted ≡ w.accepted
+    pub node : v.node ≡ w.node
+    pub capacity : v.progress.capacity ≡ w.progress.capacity
+    pub rows : v.rows.ghost_name ≡ w.rows.ghost_name
+    pub records : v.records.ghost_name ≡ w.records.ghost_name
+    pub store : v.store.ghost_name ≡ w.store.ghost_name
+    pub queue : v.queue.ghost_name ≡ w.queue.ghost_name
+
+module _ {K S Q : Type 0} (st : store.Ghosts S) (qu : queue.Ghosts Q K) where
+  -- what the parts of the tables mean
+  abbrev pub mem : Workspace K S Q → Memory K
+  mem w = record {
+    bytes = w.rows.now;
+    records = w.records.now;
+    table = st.table w.store.now;
+    kept = st.kept w.store.now;
+    space = st.space w.store.now;
+    waiting = qu.entries w.queue.now;
+    room = qu.room w.queue.now;
+    stored = w.progress.stored;
+    cover = w.progress.cover;
+  }
+
+-- nothing is refused, but there may be no space
+abbrev pub Granted : {X : Type 0} → Result X Stop → Type 0
+Granted (Ok x) = Unit {0}
+Granted (Err stop.Crowded) = Unit {0}
+Granted (Err stop.Torn) = ⊥
+
+abbrev pub outcome : ℕ → Visited → Outcome
+outcome n visited.Skipped = skipped
+outcome n visited.Expanded = expanded
+outcome n visited.Found = found n
+
+-- the relations, for the first one's task, node and capacity
+module _ {K S Q : Type 0} (C : cost.Ghosts K) (st : store.Ghosts S) (qu : queue.Ghosts Q K) (w : Workspace K S Q) where
+  abbrev pub ReadyAt : Workspace K S Q → Type 0
+  ReadyAt v = Ready C (task_in w) w.progress.capacity w.node (mem st qu v)
+
+  abbrev pub SteadyAt : Workspace K S Q → Type 0
+  SteadyAt v = Steady C (task_in w) w.progress.capacity w.node (mem st qu v)
+
+  abbrev pub EagerAt : Workspace K S Q → Type 0
+  EagerAt v = Eager C (task_in w) w.progress.capacity w.node (mem st qu v)
+
+  -- move m is tried, or there is no space for its result
+  abbrev pub Moved : ℕ → Workspace K S Q → Result (Unit {0}) Stop → Type 0
+  Moved m v (Ok x) = qu.ordered v.queue.now × One C (task_in w) w.progress.capacity w.node m (mem st qu w) (mem st qu v)
+  Moved m v (Err stop.Crowded) = Crowded C (task_in w) w.progress.capacity w.node m (mem st qu w)
+  Moved m v (Err stop.Torn) = ⊥
 
   -- from tables that are ready: nothing is refused, and they are still ready for the next move
-  abbrev pub MoveGranted : Tables K S Q → Result (Option Progress) Refusal → Type 0
-  MoveGranted t (Ok (Some q)) = Ready C task cap n (memory st qu t q.stored q.cover)
-  MoveGranted t (Ok None) = Unit {0}
-  MoveGranted t (Err e) = ⊥
+  abbrev pub MoveGranted : Workspace K S Q → Result (Unit {0}) Stop → Type 0
+  MoveGranted v (Ok x) = ReadyAt v
+  MoveGranted v (Err stop.Crowded) = Unit {0}
+  MoveGranted v (Err stop.Torn) = ⊥
 
--- nothing is refused
-abbrev pub Granted : {X : Type 0} → Result X Refusal → Type 0
-Granted (Ok x) = Unit {0}
-Granted (Err e) = ⊥
+  -- each move is tried, or those below one that finds no space
+  abbrev pub Expands : Workspace K S Q → Result (Unit {0}) Stop → Type 0
+  Expands v (Ok x) = qu.ordered v.queue.now × Upto C (task_in w) w.progress.capacity w.node (mem st qu w) (length (task_in w).moves) (mem st qu v)
+  Expands v (Err stop.Crowded) = qu.ordered v.queue.now
+      × ((m : ℕ) × (m < length (task_in w).moves) × Upto C (task_in w) w.progress.capacity w.node (mem st qu w) m (mem st qu v) × Crowded C (task_in w) w.progress.capacity w.node m (mem st qu v))
+  Expands v (Err stop.Torn) = ⊥
 
--- how a visit ended, by how its expansion did
-abbrev pub told : Expansion → Visited
-told (expansion.Done q) = visited.Expanded q
-told (expansion.Crowded q) = visited.Crowded q
+  abbrev pub Visits : Workspace K S Q → Result Visited Stop → Type 0
+  Visits v (Ok x) = qu.ordered v.queue.now × Visit C (task_in w) w.progress.capacity w.node (mem st qu w) (outcome w.node x) (mem st qu v)
+  Visits v (Err stop.Crowded) = qu.ordered v.queue.now × Visit C (task_in w) w.progress.capacity w.node (mem st qu w) out_of_space (mem st qu v)
+  Visits v (Err stop.Torn) = ⊥
 
-abbrev pub outcome : Visited → Outcome
-outcome (visited.Skipped p) = skipped
-outcome (visited.Expanded p) = expanded
-outcome (visited.Found n) = found n
-outcome (visited.Crowded p) = out_of_space
-
-abbrev pub after : Progress → Visited → Progress
-after p (visited.Skipped q) = q
-after p (visited.Expanded q) = q
-after p (visited.Found n) = p
-after p (visited.Crowded q) = q
-
-module _ {K S Q : Type 0} (C : cost.Ghosts K) (st : store.Ghosts S) (qu : queue.Ghosts Q K) (task : Task) (cap n : ℕ) where
-  abbrev pub Visits : Tables K S Q → Progress → Tables K S Q → Result Visited Refusal → Type 0
-  Visits s p t (Ok w) = qu.ordered t.queue × Visit C task cap n (memory st qu s p.stored p.cover) (outcome w) (memory st qu t (after p w).stored (after p w).cover)
-  Visits s p t (Err e) = ⊥
-
-  abbrev pub Takes : Tables K S Q → Progress → Tables K S Q → Result Visited Refusal → Type 0
-  Takes s p t (Ok w) = qu.ordered t.queue × Step C task cap (memory st qu s p.stored p.cover) (outcome w) (memory st qu t (after p w).stored (after p w).cover)
-  Takes s p t (Err e) = ⊥
+  abbrev pub Takes : Workspace K S Q → Result Visited Stop → Type 0
+  Takes v (Ok x) = qu.ordered v.queue.now × Step C (task_in w) w.progress.capacity (mem st qu w) (outcome w.node x) (mem st qu v)
+  Takes v (Err stop.Crowded) = qu.ordered v.queue.now × Step C (task_in w) w.progress.capacity (mem st qu w) out_of_space (mem st qu v)
+  Takes v (Err stop.Torn) = ⊥
 
 -- the counts
-module _ {K S Q : Type 0} (st : store.Ghosts S) (qu : queue.Ghosts Q K) (cap : ℕ) where
+module _ {K S Q : Type 0} (st : store.Ghosts S) (qu : queue.Ghosts Q K) (w v : Workspace K S Q) where
   -- as many more entries wait as more nodes are stored, and nothing is kept
-  pub record Grown (s : Tables K S Q) (p : Progress) (t : Tables K S Q) (q : Progress) : Type 0 where
-    pub more : p.stored ≤ q.stored
-    pub within : q.stored ≤ cap
-    pub store : t.store ≡ s.store
-    pub waits : length (qu.entries t.queue) + p.stored ≡ length (qu.entries s.queue) + q.stored
+  pub record Grown : Type 0 where
+    pub more : w.progress.stored ≤ v.progress.stored
+    pub store : v.store.now ≡ w.store.now
+    pub waits : length (qu.entries v.queue.now) + w.progress.stored ≡ length (qu.entries w.queue.now) + v.progress.stored
 
-  abbrev pub MoveCounts : Tables K S Q → Progress → Tables K S Q → Result (Option Progress) Refusal → Type 0
-  MoveCounts s p t (Ok (Some q)) = Grown s p t q
-  MoveCounts s p t (Ok None) = t ≡ s
-  MoveCounts s p t (Err e) = Unit {0}
+  -- where there is no space, nothing is written
+  abbrev pub MoveCounts : Result (Unit {0}) Stop → Type 0
+  MoveCounts (Ok x) = Grown
+  MoveCounts (Err stop.Crowded) = (v.store.now ≡ w.store.now) × (v.queue.now ≡ w.queue.now) × (mem st qu v ≡ mem st qu w)
+  MoveCounts (Err stop.Torn) = Unit {0}
 
-  abbrev pub ExpandCounts : Tables K S Q → Progress → Tables K S Q → Result Expansion Refusal → Type 0
-  ExpandCounts s p t (Ok (expansion.Done q)) = Grown s p t q
-  ExpandCounts s p t (Ok (expansion.Crowded q)) = Grown s p t q
-  ExpandCounts s p t (Err e) = Unit {0}
+  abbrev pub ExpandCounts : Result (Unit {0}) Stop → Type 0
+  ExpandCounts (Ok x) = Grown
+  ExpandCounts (Err stop.Crowded) = Grown
+  ExpandCounts (Err stop.Torn) = Unit {0}
 
   -- a row is kept, and as many more entries wait as more nodes are stored
-  pub record Spread (s : Tables K S Q) (p : Progress) (t : Tables K S Q) (q : Progress) : Type 0 where
-    pub more : p.stored ≤ q.stored
-    pub within : q.stored ≤ cap
-    pub keeps : length (st.kept t.store) ≡ length (st.kept s.store) + 1
-    pub waits : length (qu.entries t.queue) + p.stored ≡ length (qu.entries s.queue) + q.stored
+  pub record Spread : Type 0 where
+    pub more : w.progress.stored ≤ v.progress.stored
+    pub keeps : length (st.kept v.store.now) ≡ length (st.kept w.store.now) + 1
+    pub waits : length (qu.entries v.queue.now) + w.progress.stored ≡ length (qu.entries w.queue.now) + v.progress.stored
 
-  pub record Skip (s : Tables K S Q) (p : Progress) (t : Tables K S Q) (q : Progress) : Type 0 where
-    pub stored : q.stored ≡ p.stored
-    pub keeps : length (st.kept t.store) ≡ length (st.kept s.store)
-    pub waits : length (qu.entries t.queue) ≡ length (qu.entries s.queue)
+  pub record Skip : Type 0 where
+    pub stored : v.progress.stored ≡ w.progress.stored
+    pub keeps : length (st.kept v.store.now) ≡ length (st.kept w.store.now)
+    pub waits : length (qu.entries v.queue.now) ≡ length (qu.entries w.queue.now)
 
-  abbrev pub VisitCounts : Tables K S Q → Progress → Tables K S Q → Result Visited Refusal → Type 0
-  VisitCounts s p t (Ok (visited.Skipped q)) = Skip s p t q
-  VisitCounts s p t (Ok (visited.Expanded q)) = Spread s p t q
-  VisitCounts s p t (Ok (visited.Found n)) = n < p.stored
-  VisitCounts s p t (Ok (visited.Crowded q)) = Spread s p t q
-  VisitCounts s p t (Err e) = Unit {0}
+  abbrev pub VisitCounts : Result Visited Stop → Type 0
+  VisitCounts (Ok visited.Skipped) = Skip
+  VisitCounts (Ok visited.Expanded) = Spread
+  VisitCounts (Ok visited.Found) = v.progress ≡ w.progress
+  VisitCounts (Err stop.Crowded) = Spread
+  VisitCounts (Err stop.Torn) = Unit {0}
 
   -- the same for a step, which takes an entry first
-  abbrev pub TakeCounts : Tables K S Q → Progress → Tables K S Q → Result Visited Refusal → Type 0
-  TakeCounts s p t (Ok (visited.Skipped q)) = (q.stored ≡ p.stored) × (length (st.kept t.store) ≡ length (st.kept s.store)) × (length (qu.entries t.queue) + 1 ≡ length (qu.entries s.queue))
-  TakeCounts s p t (Ok (visited.Expanded q)) = (p.stored ≤ q.stored) × (q.stored ≤ cap) × (length (st.kept t.store) ≡ length (st.kept s.store) + 1) × (length (qu.entries t.queue) + 1 + p.stored ≡ length (qu.entries s.queue) + q.stored)
-  TakeCounts s p t (Ok (visited.Found n)) = n < p.stored
-  TakeCounts s p t (Ok (visited.Crowded q)) = q.stored ≤ cap
-  TakeCounts s p t (Err e) = Unit {0}
+  abbrev pub TakeCounts : Result Visited Stop → Type 0
+  TakeCounts (Ok visited.Skipped) = (v.progress.stored ≡ w.progress.stored) × (length (st.kept v.store.now) ≡ length (st.kept w.store.now)) × (length (qu.entries v.queue.now) + 1 ≡ length (qu.entries w.queue.now))
+  TakeCounts (Ok visited.Expanded) = (w.progress.stored ≤ v.progress.stored) × (length (st.kept v.store.now) ≡ length (st.kept w.store.now) + 1)
+      × (length (qu.entries v.queue.now) + 1 + w.progress.stored ≡ length (qu.entries w.queue.now) + v.progress.stored)
+  TakeCounts (Ok visited.Found) = v.progress ≡ w.progress
+  TakeCounts (Err stop.Crowded) = Unit {0}
+  TakeCounts (Err stop.Torn) = Unit {0}
 
--- what a look at the tables tells
+-- what a look at the tables tells: a refusal, that nothing waits, or the least node
 module _ {K : Type 0} (C : cost.Ghosts K) (task : Task) (cap k w : ℕ) where
-  abbrev pub Looks : Memory K → Look → Type 0
-  Looks s seen.Torn = Whole C task cap k w s → ⊥
-  Looks s seen.Empty = Whole C task cap k w s × (s.waiting ≡ [])
-  Looks s (seen.Least n) = Whole C task cap k w s × Names C s.waiting n
+  abbrev pub Looks : Memory K → Result (Option ℕ) Refusal → Type 0
+  Looks s (Err e) = Whole C task cap k w s → ⊥
+  Looks s (Ok None) = Whole C task cap k w s × (s.waiting ≡ [])
+  Looks s (Ok (Some n)) = Whole C task cap k w s × Names C s.waiting n
 
   -- a node is named only where the sizes and counts are right, something waits, and the node is sound
-  abbrev pub Looked : Memory K → Look → Type 0
-  Looked s seen.Torn = Unit {0}
-  Looked s seen.Empty = Unit {0}
-  Looked s (seen.Least n) = Sized C task cap k w s × (0 < w) × Sound C task n s
+  abbrev pub Looked : Memory K → Result (Option ℕ) Refusal → Type 0
+  Looked s (Err e) = e ≡ Torn
+  Looked s (Ok None) = Unit {0}
+  Looked s (Ok (Some n)) = Sized C task cap k w s × (0 < w) × Sound C task n s

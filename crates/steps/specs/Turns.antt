@@ -1,5 +1,7 @@
 -- Turns of the work: before each step the tables are looked at, and a step is done only from tables that are not torn.
-use Rattle.std.specs.Prelude.{◌≡◌, ℕ, ◌+◌, ◌<◌, ◌≤◌, true, false, length}
+use Rattle.std.specs.Prelude.{◌≡◌, ℕ, ◌+◌, ◌<◌, ◌≤◌, true, false, length, Ok, Err, Result}
+use Rattle.rows.specs.declared.refusals.Refusal.{Refusal}
+use Rattle.rows.specs.declared.refusals.Refusal.TheVariants.{Torn}
 use Rattle.rows.specs.Tasks.{Task}
 use Rattle.cost.specs.declared.costs.Cost as cost
 use Rattle.store.specs.declared.stores.Store as store
@@ -19,7 +21,7 @@ pub record Standing (K : Type 0) : Type 0 where
   pub waits : ℕ
 
 abbrev pub standing : {K S Q : Type 0} → store.Ghosts S → queue.Ghosts Q K → Tables K S Q → Numbers → Standing K
-standing st qu t j = record { memory = memory st qu t j.stored j.cover; keeps = j.kept; waits = j.waiting }
+standing st qu t j = record { memory = memory st qu t j.progress.stored j.progress.cover; keeps = j.kept; waits = j.waiting }
 
 module _ {K : Type 0} (C : cost.Ghosts K) (task : Task) (cap : ℕ) where
   -- the tables are not torn
@@ -52,28 +54,28 @@ module _ {K : Type 0} (C : cost.Ghosts K) (task : Task) (cap : ℕ) where
 
 module _ {K S Q : Type 0} (C : cost.Ghosts K) (st : store.Ghosts S) (qu : queue.Ghosts Q K) (task : Task) where
   -- what a turn answers: a step, or that the tables are torn
-  abbrev pub Turns : Numbers → Tables K S Q → Tables K S Q → Turned → Type 0
-  Turns j s t turned.Torn = (t ≡ s) × (Intact C task j.capacity (standing st qu s j) → ⊥)
-  Turns j s t (turned.Onward k) =
-      qu.ordered t.queue × ((o : Outcome) × (going o ≡ true) × Turn C task j.capacity (standing st qu s j) o (memory st qu t k.stored k.cover))
-  Turns j s t (turned.Found n) = qu.ordered t.queue × Turn C task j.capacity (standing st qu s j) (found n) (memory st qu t j.stored j.cover)
-  Turns j s t turned.NoPlan = (t ≡ s) × Turn C task j.capacity (standing st qu s j) no_plan (memory st qu s j.stored j.cover)
-  Turns j s t (turned.OutOfSpace p) = qu.ordered t.queue × Turn C task j.capacity (standing st qu s j) out_of_space (memory st qu t p.stored p.cover)
+  abbrev pub Turns : Numbers → Tables K S Q → Tables K S Q → Result Turned Refusal → Type 0
+  Turns j s t (Err e) = (t ≡ s) × (Intact C task j.progress.capacity (standing st qu s j) → ⊥)
+  Turns j s t (Ok (turned.Onward k)) =
+      qu.ordered t.queue × ((o : Outcome) × (going o ≡ true) × Turn C task j.progress.capacity (standing st qu s j) o (memory st qu t k.progress.stored k.progress.cover))
+  Turns j s t (Ok (turned.Found n)) = qu.ordered t.queue × Turn C task j.progress.capacity (standing st qu s j) (found n) (memory st qu t j.progress.stored j.progress.cover)
+  Turns j s t (Ok turned.NoPlan) = (t ≡ s) × Turn C task j.progress.capacity (standing st qu s j) no_plan (memory st qu s j.progress.stored j.progress.cover)
+  Turns j s t (Ok (turned.OutOfSpace p)) = qu.ordered t.queue × Turn C task j.progress.capacity (standing st qu s j) out_of_space (memory st qu t p.stored p.cover)
 
   -- what holds of the counts whatever the order inside the queue is: the capacity stays, a job that goes on knows how full the
-  -- tables are, a found node is stored, and no more nodes are than the capacity
-  abbrev pub Counts : Numbers → Tables K S Q → Turned → Type 0
-  Counts j t turned.Torn = Unit {0}
-  Counts j t (turned.Onward k) = (k.capacity ≡ j.capacity) × Known C task j.capacity (standing st qu t k)
-  Counts j t (turned.Found n) = n < j.stored
-  Counts j t turned.NoPlan = Unit {0}
-  Counts j t (turned.OutOfSpace p) = p.stored ≤ j.capacity
+  -- tables are, and a found node is stored
+  abbrev pub Counts : Numbers → Tables K S Q → Result Turned Refusal → Type 0
+  Counts j t (Err e) = e ≡ Torn
+  Counts j t (Ok (turned.Onward k)) = (k.progress.capacity ≡ j.progress.capacity) × Known C task j.progress.capacity (standing st qu t k)
+  Counts j t (Ok (turned.Found n)) = n < j.progress.stored
+  Counts j t (Ok turned.NoPlan) = Unit {0}
+  Counts j t (Ok (turned.OutOfSpace p)) = (p.stored ≤ j.progress.capacity) × (p.capacity ≡ j.progress.capacity)
 
 module _ {K S Q : Type 0} where
   -- torn tables, and tables in which nothing waits, are left as they were, whatever the order inside the queue is
-  abbrev pub Unmoved : Tables K S Q → Tables K S Q → Turned → Type 0
-  Unmoved s t turned.Torn = t ≡ s
-  Unmoved s t (turned.Onward k) = Unit {0}
-  Unmoved s t (turned.Found n) = Unit {0}
-  Unmoved s t turned.NoPlan = t ≡ s
-  Unmoved s t (turned.OutOfSpace p) = Unit {0}
+  abbrev pub Unmoved : Tables K S Q → Tables K S Q → Result Turned Refusal → Type 0
+  Unmoved s t (Err e) = t ≡ s
+  Unmoved s t (Ok (turned.Onward k)) = Unit {0}
+  Unmoved s t (Ok (turned.Found n)) = Unit {0}
+  Unmoved s t (Ok turned.NoPlan) = t ≡ s
+  Unmoved s t (Ok (turned.OutOfSpace p)) = Unit {0}

@@ -5,7 +5,7 @@ ghost use Rattle.steps.specs.Memories.{memory};
 ghost use Rattle.steps.specs.Begins.{New, Begins};
 
 use crate::tables::{Record, Tables};
-use crate::{grow, same};
+use crate::{note, same, write_row};
 use cost::costs::Cost;
 use queue::queues::Queue;
 use rows::refusals::Refusal;
@@ -53,13 +53,17 @@ pub fn begin<K: Cost, S: Store, Q: Queue<K>>(
     if c == 0 {
         return Err(Refusal::NoSpace);
     }
-    let root = Record {
-        cost: K::nothing(),
-        parent: 0,
-        step: 0,
-    };
-    match grow(t, 0, accepted.task.goal, root) {
-        Err(e) => Err(e),
-        Ok(()) => Ok(c),
-    }
+    let cost = K::nothing();
+    write_row(t.rows, 0, accepted.task.goal);
+    note(
+        t.records,
+        0,
+        Record {
+            cost,
+            parent: 0,
+            step: 0,
+        },
+    );
+    t.queue.put(cost, 0)?;
+    Ok(c)
 }

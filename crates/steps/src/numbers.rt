@@ -1,31 +1,27 @@
 ghost use Rattle.std.specs.Prelude.{◌+◌, ◌≤◌};
 
-// The numbers of a job that goes on: its capacity, the nodes stored, the rows kept and the nodes waiting as it left them, and
-// the last cover, which is the rank most recently answered.
+// How far a job has come: the nodes stored, of as many as its capacity, and the last cover, which is the rank most recently answered.
 #[derive(Clone, Copy)]
-pub struct Numbers {
+pub struct Progress {
     pub capacity: u16,
     pub stored: u16,
-    pub kept: u16,
-    pub waiting: u16,
     pub cover: Option<u16>,
     ghost within: { stored ≤ capacity },
     ghost short: { capacity ≤ 65535 },
-    ghost counted: { kept + waiting ≤ stored },
 }
 
-// How far an expansion has come: the nodes stored, and the last cover.
+// The numbers of a job that goes on: how far it has come, and the rows kept and the nodes waiting as it left them.
 #[derive(Clone, Copy)]
-pub struct Progress {
-    pub stored: u16,
-    pub cover: Option<u16>,
+pub struct Numbers {
+    pub progress: Progress,
+    pub kept: u16,
+    pub waiting: u16,
+    ghost counted: { kept + waiting ≤ progress.stored },
 }
 
-// How a turn went: the tables are torn and nothing was done, or one step was done. Its node's row was covered, or its moves
-// were tried, and the job goes on; or it ended the job.
+// How a step went. Its node's row was covered, or its moves were tried, and the job goes on; or it ended the job.
 #[derive(Clone, Copy)]
 pub enum Turned {
-    Torn,
     Onward(Numbers),
     Found(u16),
     NoPlan,

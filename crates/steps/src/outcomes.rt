@@ -1,34 +1,28 @@
 // What the inner functions of a turn tell each other.
-use crate::numbers::Progress;
+ghost use Rattle.std.specs.Prelude.{◌≡◌};
+ghost use Rattle.steps.specs.declared.outcomes.Stop.TheVariants.{Torn};
 
-// The move by which a row was met: the node that it was tried at, its number and its price.
-#[derive(Clone, Copy)]
-pub struct Met {
-    pub parent: u16,
-    pub step: u16,
-    pub price: u32,
-}
-
-// How an expansion ended: each move was tried, or one found no space.
-#[derive(Clone, Copy)]
-pub enum Expansion {
-    Done(Progress),
-    Crowded(Progress),
-}
+use rows::refusals::Refusal;
 
 // How a step went with the node that it took.
 #[derive(Clone, Copy)]
 pub enum Visited {
-    Skipped(Progress),
-    Expanded(Progress),
-    Found(u16),
-    Crowded(Progress),
+    Skipped,
+    Expanded,
+    Found,
 }
 
-// What a look at the tables tells before a step.
+// Why a step breaks off: a call is refused, which happens only where the tables are torn; or there is no space for a row.
 #[derive(Clone, Copy)]
-pub enum Look {
+pub enum Stop {
     Torn,
-    Empty,
-    Least(u16),
+    Crowded,
+}
+
+impl From<Refusal> for Stop {
+    ghost from_gives = { λ _ r. r ≡ Torn };
+
+    fn from(_e: Refusal) -> Stop {
+        Stop::Torn
+    }
 }
