@@ -1,6 +1,7 @@
 -- A test of each byte: of the whole list, and place by place.
-use Rattle.std.proofs.Common.{◌≡◌, ℕ, zero, suc, ◌<◌, Bool, true, false, List, [], ◌∷◌, length, get_or, refl, arith}
-use Rattle.std.proofs.lemmas.Bool.{and_parts, and_from, and_left, and_right}
+use Rattle.std.proofs.Common.{◌≡◌, ℕ, zero, suc, ◌<◌, Bool, true, ◌&&◌, List, [], ◌∷◌, length, get_or, refl, ap, arith}
+use Rattle.std.specs.List.{list_all}
+use Rattle.std.proofs.lemmas.Bool.{and_parts, and_from}
 use Rattle.rows.specs.Rows.{all}
 
 module _ (p : ℕ → Bool) where
@@ -13,7 +14,6 @@ module _ (p : ℕ → Bool) where
   all_from [] h = refl
   all_from (a ∷ xs) h = and_from (p a) (all p xs) (h 0 (omega arith)) (all_from xs (λ i k. h (suc i) (omega arith)))
 
-  pub all_not_at : (xs : List ℕ) (i : ℕ) → i < length xs → p (get_or xs i 0) ≡ false → all p xs ≡ false
-  all_not_at [] i k e = absurd (omega arith)
-  all_not_at (a ∷ xs) zero k e = and_left (p a) (all p xs) e
-  all_not_at (a ∷ xs) (suc i) k e = and_right (p a) (all p xs) (all_not_at xs i (omega arith) e)
+  pub all_is : (xs : List ℕ) → list_all p xs ≡ all p xs
+  all_is [] = refl
+  all_is (a ∷ xs) = ap (λ t. p a && t) (all_is xs)

@@ -1,5 +1,6 @@
 -- A test of the two bytes at each place: of the whole lists, and place by place.
-use Rattle.std.proofs.Common.{◌≡◌, ℕ, zero, suc, ◌<◌, Bool, true, false, List, [], ◌∷◌, length, get_or, refl, ap, arith}
+use Rattle.std.proofs.Common.{◌≡◌, ℕ, zero, suc, ◌<◌, Bool, true, false, ◌&&◌, List, [], ◌∷◌, length, get_or, refl, ap, arith}
+use Rattle.std.specs.List.{list_all, zip}
 use Rattle.std.proofs.lemmas.Bool.{and_parts, and_left, and_right, both_ways}
 use Rattle.rows.specs.Rows.{both}
 
@@ -34,3 +35,10 @@ module _ (p : ℕ → ℕ → Bool) where
   both_not_at (a ∷ xs) [] v h k e = absurd (omega arith)
   both_not_at (a ∷ xs) (b ∷ ys) zero h k e = and_left (p a b) (both p xs ys) e
   both_not_at (a ∷ xs) (b ∷ ys) (suc v) h k e = and_right (p a b) (both p xs ys) (both_not_at xs ys v (omega arith) (omega arith) e)
+
+  -- of lists that are equally long, it is a test of their pairs
+  pub both_pairs : (xs ys : List ℕ) → length xs ≡ length ys → list_all (λ (q : ℕ × ℕ). p q.0 q.1) (zip xs ys) ≡ both p xs ys
+  both_pairs [] [] e = refl
+  both_pairs [] (b ∷ ys) e = absurd (omega arith)
+  both_pairs (a ∷ xs) [] e = absurd (omega arith)
+  both_pairs (a ∷ xs) (b ∷ ys) e = ap (λ t. p a b && t) (both_pairs xs ys (omega arith))

@@ -1,5 +1,5 @@
 pub mod Alls
 pub mod Both
-pub mod Regressing
+pub mod Pairs
 pub mod Writing
 pub mod Outcomes

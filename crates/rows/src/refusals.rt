@@ -1,8 +1,11 @@
-ghost use Rattle.std.specs.Prelude.{◌≡◌, codes};
+ghost use Rattle.std.specs.Prelude.{◌≡◌, Some, codes};
 ghost use Rattle.rows.specs.Refusals.{number, word};
 
+use std::error::Error;
+use std::fmt;
+
 // Why a call declines. Each ground has a number and a word, which are what a technician sees.
-#[derive(Clone, Copy, PartialEq, Eq, Debug)]
+#[derive(Clone, Copy, Debug, PartialEq, Eq, Hash)]
 pub enum Refusal {
     Stub,
     Contents,
@@ -67,5 +70,23 @@ impl Refusal {
             Refusal::Long => "Long",
             Refusal::Known => "Known",
         }
+    }
+}
+
+impl fmt::Display for Refusal {
+    ghost output = { λ refusal. Some (word refusal) };
+
+    fn fmt<W: fmt::Write>(&self, f: &mut fmt::Formatter<W>) -> fmt::Result {
+        f.write_str(self.word())
+    }
+}
+
+impl Error for Refusal {}
+
+impl From<Refusal> for u8 {
+    ghost from_gives = { λ refusal n. n ≡ number refusal };
+
+    fn from(refusal: Refusal) -> u8 {
+        refusal.number()
     }
 }

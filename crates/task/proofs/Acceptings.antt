@@ -2,10 +2,10 @@
 use Rattle.std.proofs.Common.{◌≡◌, ℕ, zero, suc, ◌+◌, ◌-◌, ◌≤◌, List, [], ◌∷◌, length, take, drop, Some, None, Ok, Err, Option, Result, sym, refl, ap, ◌∙◌, subst, arith, length-drop, Bor}
 use Rattle.std.proofs.lemmas.List.{take_all, drop-drop}
 use Rattle.task.specs.declared.faults.Fault.{Fault}
-use Rattle.task.specs.declared.tables.Task.{Task}
+use Rattle.task.specs.declared.accepted.Accepted.{Accepted}
 use Rattle.task.specs.Files.{Bodies, place, size, body, reading, name_in, name_from}
-use Rattle.task.specs.Laws.{Tiles, Sound, Accepts}
-use Rattle.task.specs.Answers.{held, Reads, LooksUp, NamesMove, LiesInFile}
+use Rattle.task.specs.Laws.{Tiles, Sound, Reads, Accepts}
+use Rattle.task.specs.Answers.{held, LooksUp, NamesMove, LiesInFile}
 use Rattle.task.proofs.Readings.{read_parts, read_from, no_err}
 use Rattle.task.proofs.Layouts.{chain, laid, tiled, bodies_are}
 use Rattle.task.proofs.Judgings.{sound_from, judged_if_sound}
@@ -23,8 +23,8 @@ read_if_sound file b t s = read_from file b (record {
   judged = judged_if_sound b s;
 })
 
-pub accepts : (file : List ℕ) (r : Result Task Fault) → Reads file r → Accepts file r
-accepts file (Ok t) h = laid_out file (held t) h
+pub accepts : (file : List ℕ) (r : Result Accepted Fault) → Reads file r → Accepts file r
+accepts file (Ok a) h = laid_out file (held a.task) h
 accepts file (Err e) h = λ b t s. no_err e b (sym h ∙ read_if_sound file b t s)
 
 -- the names stand at the end of an accepted file

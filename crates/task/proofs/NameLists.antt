@@ -1,81 +1,71 @@
--- Names that lie one after another, from a place on.
-use Rattle.std.proofs.Common.{◌≡◌, ℕ, zero, suc, ◌+◌, ◌-◌, ◌*◌, ◌<◌, ◌≤◌, true, false, ◌&&◌, eqb, leb, List, [], ◌∷◌, length, get_or, take, drop, Some, None, Option, sym, refl, ap, ◌∙◌, ⊎_elim, arith, length-drop}
-use Rattle.std.proofs.lemmas.List.{drop_more, drop_all, drop-drop}
-use Rattle.std.proofs.lemmas.Bool.{eq-eqb, ne_eqb, cases_lt, and_parts, leb-true, both_ways}
+-- Names that lie one after another, each behind its length.
+use Rattle.std.proofs.Common.{◌≡◌, ℕ, zero, suc, ◌+◌, ◌-◌, ◌*◌, ◌<◌, ◌≤◌, Bool, true, false, ◌&&◌, eqb, leb, List, [], ◌∷◌, ◌++◌, length, take, drop, Some, None, Option, sym, refl, ap, ◌∙◌, arith, length-append, length-drop}
+use Rattle.std.proofs.lemmas.List.{take_at, drop_at, take-append-drop, length-take-le}
+use Rattle.std.proofs.lemmas.Bool.{and_parts, leb-true, le-leb, both_ways, ne_eqb, false_from_ne_true}
 use Rattle.rows.specs.Rows.{all}
 use Rattle.task.specs.Files.{named, begins, printable, name_in}
 
-not_past : (at : ℕ) (bs : List ℕ) → begins (drop at bs) ≡ true → at < length bs
-not_past at bs b = ⊎_elim
-    (λ l. l)
-    (λ (l : length bs ≤ at). absurd (both_ways (begins (drop at bs)) (ap begins (drop_all at bs l)) b))
-    (cases_lt at (length bs))
+-- what a move may be named
+abbrev pub lawful : List ℕ → Bool
+lawful name = (leb 1 (length name) && leb (length name) 40) && all printable name
 
--- a name that begins at a place lies within the bytes
-pub begins_within : (at : ℕ) (bs : List ℕ) → begins (drop at bs) ≡ true → (at < length bs) × (at + (1 + get_or bs at 0) ≤ length bs)
-begins_within at bs b =
-    let l : at < length bs = not_past at bs b in
-    let b' : begins (get_or bs at 0 ∷ drop (at + 1) bs) ≡ true = sym (ap begins (drop_more bs at 0 l)) ∙ b in
-    let n = get_or bs at 0 in
-    let rest = drop (at + 1) bs in
-    let p = (and_parts (leb 1 n && leb n 40) (leb n (length rest) && all printable (take n rest)) b').1 in
-    let q = leb-true n (length rest) (and_parts (leb n (length rest)) (all printable (take n rest)) p).0 in
-    (l, omega (arith, q, length-drop (at + 1) bs))
+-- bytes that begin with a whole name
+module _ (name after : List ℕ) where
+  pub begins_is : begins (length name ∷ (name ++ after)) ≡ lawful name
+  begins_is =
+      ap (λ t. (leb 1 (length name) && leb (length name) 40) && (t && all printable (take (length name) (name ++ after))))
+      (le-leb (length name) (length (name ++ after)) (omega (arith, length-append name after)))
+      ∙ ap (λ xs. (leb 1 (length name) && leb (length name) 40) && all printable xs) (take_at name after (length name) refl)
 
-named_cons : (m n : ℕ) (rest : List ℕ) → begins (n ∷ rest) ≡ true → named (suc m) (n ∷ rest) ≡ named m (drop n rest)
-named_cons m n rest b = rw b refl
+  rest_is : drop (length name) (name ++ after) ≡ after
+  rest_is = drop_at name after (length name) refl
 
--- one name on
-pub named_more : (m at : ℕ) (bs : List ℕ) → begins (drop at bs) ≡ true → named (suc m) (drop at bs) ≡ named m (drop (at + (1 + get_or bs at 0)) bs)
-named_more m at bs b =
-    let l : at < length bs = not_past at bs b in
-    let e = drop_more bs at 0 l in
-    let to : at + 1 + get_or bs at 0 ≡ at + (1 + get_or bs at 0) = omega arith in
-    ap (named (suc m)) e ∙ named_cons m (get_or bs at 0) (drop (at + 1) bs) (sym (ap begins e) ∙ b)
-    ∙ ap (named m) (drop-drop (get_or bs at 0) (at + 1) bs ∙ ap (λ i. drop i bs) to)
+  -- one name on
+  pub named_more : (m : ℕ) → lawful name ≡ true → named (suc m) (length name ∷ (name ++ after)) ≡ named m after
+  named_more m l = ap (λ t. t && named m (drop (length name) (name ++ after))) (begins_is ∙ l) ∙ ap (named m) rest_is
 
-pub named_stuck : (m : ℕ) (bs : List ℕ) → begins bs ≡ false → named (suc m) bs ≡ false
-named_stuck m [] b = refl
-named_stuck m (n ∷ rest) b = rw b refl
+  pub named_stuck : (m : ℕ) → lawful name ≡ false → named (suc m) (length name ∷ (name ++ after)) ≡ false
+  named_stuck m l = ap (λ t. t && named m (drop (length name) (name ++ after))) (begins_is ∙ l)
 
-pub named_none : (at : ℕ) (bs : List ℕ) → at ≤ length bs → named 0 (drop at bs) ≡ eqb at (length bs)
-named_none at bs h = ⊎_elim
-    (λ (l : at < length bs). rw (drop_more bs at 0 l, ne_eqb at (length bs) (λ e. omega arith)))
-    (λ (l : length bs ≤ at). rw (drop_all at bs l, eq-eqb at (length bs) (omega arith)))
-    (cases_lt at (length bs))
+  pub name_more : (at k : ℕ) → name_in at (length name ∷ (name ++ after)) (suc k) ≡ name_in (at + 1 + length name) after k
+  name_more at k = ap (λ xs. name_in (at + 1 + length name) xs k) rest_is
 
--- name k + 1 of the names from a place on is name k of those after the first
-pub name_more : (base at k : ℕ) (bs : List ℕ) → at < length bs
-    → name_in (base + at) (drop at bs) (suc k) ≡ name_in (base + (at + (1 + get_or bs at 0))) (drop (at + (1 + get_or bs at 0)) bs) k
-name_more base at k bs l =
-    let to : at + 1 + get_or bs at 0 ≡ at + (1 + get_or bs at 0) = omega arith in
-    let so : base + at + 1 + get_or bs at 0 ≡ base + (at + (1 + get_or bs at 0)) = omega arith in
-    ap (λ xs. name_in (base + at) xs (suc k)) (drop_more bs at 0 l)
-    ∙ ap (λ i. name_in i (drop (get_or bs at 0) (drop (at + 1) bs)) k) so
-    ∙ ap (λ xs. name_in (base + (at + (1 + get_or bs at 0))) xs k) (drop-drop (get_or bs at 0) (at + 1) bs ∙ ap (λ i. drop i bs) to)
+  pub name_here : (at : ℕ) → name_in at (length name ∷ (name ++ after)) 0 ≡ Some (name, at + 1)
+  name_here at = ap (λ xs. Some (xs, at + 1)) (take_at name after (length name) refl)
 
-pub name_none : (base at k : ℕ) (bs : List ℕ) → length bs ≤ at → name_in (base + at) (drop at bs) k ≡ None
-name_none base at k bs l = ap (λ xs. name_in (base + at) xs k) (drop_all at bs l)
+  -- of so many names it is the first, and one fewer is left after it
+  pub left_more : (m n : ℕ) → named m (length name ∷ (name ++ after)) ≡ true → n ≡ m - 1 → named n after ≡ true
+  left_more zero n h e = absurd (both_ways false refl h)
+  left_more (suc m) n h e =
+      let to : n ≡ m = omega arith in
+      ap (λ i. named i after) to ∙ ap (named m) (sym rest_is) ∙ (and_parts (begins (length name ∷ (name ++ after))) (named m (drop (length name) (name ++ after))) h).1
 
-pub name_here : (base at : ℕ) (bs : List ℕ) → at < length bs → name_in (base + at) (drop at bs) 0 ≡ Some (take (get_or bs at 0) (drop (at + 1) bs), base + at + 1)
-name_here base at bs l = ap (λ xs. name_in (base + at) xs 0) (drop_more bs at 0 l)
+-- bytes with which no whole name begins
+abbrev pub NoName : List ℕ → Type 0
+NoName bs = (name after : List ℕ) → bs ≡ length name ∷ (name ++ after) → ⊥
 
--- where names are left, one begins
-pub begins_from_named : (m : ℕ) (bs : List ℕ) → 0 < length bs → named m bs ≡ true → (begins bs ≡ true) × (0 < m)
-begins_from_named zero [] l h = absurd (omega arith)
-begins_from_named zero (n ∷ rest) l h = absurd (both_ways false refl h)
-begins_from_named (suc m) [] l h = absurd (both_ways false refl h)
-begins_from_named (suc m) (n ∷ rest) l h = ((and_parts (begins (n ∷ rest)) (named m (drop n rest)) h).0, omega arith)
+begins_not : (bs : List ℕ) → NoName bs → begins bs ≡ false
+begins_not [] none = refl
+begins_not (n ∷ rest) none = false_from_ne_true (begins (n ∷ rest)) (λ h.
+    let p = (and_parts (leb 1 n && leb n 40) (leb n (length rest) && all printable (take n rest)) h).1 in
+    let l = leb-true n (length rest) (and_parts (leb n (length rest)) (all printable (take n rest)) p).0 in
+    none (take n rest) (drop n rest)
+    (ap (λ i. i ∷ rest) (sym (length-take-le n rest l)) ∙ ap (λ xs. length (take n rest) ∷ xs) (sym (take-append-drop n rest))))
 
--- where so many names are left, one begins, and one fewer is left after it
-pub left_begins : (m i at : ℕ) (bs : List ℕ) → at < length bs → named (m - i) (drop at bs) ≡ true → begins (drop at bs) ≡ true
-left_begins m i at bs l h = (begins_from_named (m - i) (drop at bs) (omega (arith, length-drop at bs)) h).0
+pub named_not : (m : ℕ) (bs : List ℕ) → NoName bs → named (suc m) bs ≡ false
+named_not m [] none = refl
+named_not m (n ∷ rest) none = ap (λ t. t && named m (drop n rest)) (begins_not (n ∷ rest) none)
 
-pub left_more : (m i at : ℕ) (bs : List ℕ) → at < length bs → named (m - i) (drop at bs) ≡ true → named (m - (i + 1)) (drop (at + (1 + get_or bs at 0)) bs) ≡ true
-left_more m i at bs l h =
-    let p = begins_from_named (m - i) (drop at bs) (omega (arith, length-drop at bs)) h in
-    let e : m - i ≡ suc (m - (i + 1)) = omega (arith, p.1) in
-    sym (named_more (m - (i + 1)) at bs p.0) ∙ sym (ap (λ n. named n (drop at bs)) e) ∙ h
+pub named_end : (bs : List ℕ) → named 0 bs ≡ eqb (length bs) 0
+named_end [] = refl
+named_end (n ∷ rest) = sym (ne_eqb (suc (length rest)) 0 (λ e. omega arith))
+
+-- of lawful names none are left there
+pub name_not : (m at k : ℕ) (bs : List ℕ) → named m bs ≡ true → NoName bs → name_in at bs k ≡ None
+name_not m at k [] h none = refl
+name_not zero at k (n ∷ rest) h none = absurd (both_ways false refl h)
+name_not (suc m) at k (n ∷ rest) h none =
+    absurd (both_ways (begins (n ∷ rest)) (begins_not (n ∷ rest) none) (and_parts (begins (n ∷ rest)) (named m (drop n rest)) h).0)
 
 -- each of so many names is there, and printable
 pub record HasName (base : ℕ) (bs : List ℕ) (k : ℕ) : Type 0 where

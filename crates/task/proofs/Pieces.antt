@@ -1,8 +1,9 @@
 -- A buffer that is written piece after piece: the pieces so far over what it held.
-use Rattle.std.proofs.Common.{◌≡◌, ℕ, ◌+◌, ◌≤◌, List, ◌++◌, length, take, drop, sym, refl, ap, ◌∙◌, append_assoc, arith, length-append}
+use Rattle.std.proofs.Common.{◌≡◌, ℕ, ◌+◌, ◌≤◌, List, [], ◌∷◌, ◌++◌, length, take, drop, sym, refl, ap, ◌∙◌, append_assoc, arith, length-append}
 use borrow.Rule.Slice.PartMut.{put_mid}
 use Rattle.std.proofs.lemmas.List.{drop-drop, length-take-le, take_at, drop_at, take-append-drop}
 use Rattle.rows.specs.Calls.{over}
+use Rattle.task.specs.Layouts.{entry, entries}
 
 -- one write of a part, as a longer front
 pub over_part : (at k : ℕ) (old piece new : List ℕ) → k ≡ length piece → new ≡ piece → at ≤ length old
@@ -46,3 +47,8 @@ pub from : (at : ℕ) (old : List ℕ) → at ≤ length old → Done at (take a
 from at old l =
     let n = length-take-le at old l in
     record { long = sym n; is = sym (take-append-drop at old) ∙ ap (λ i. take at old ++ drop i old) (sym n) }
+
+-- five entries, each of a body that begins where the one before it ends
+pub five_entries : (v s g m n a b d e : ℕ) → a ≡ 40 + v → b ≡ a + s → d ≡ b + g → e ≡ d + m
+    → [] ++ entry 40 v ++ entry a s ++ entry b g ++ entry d m ++ entry e n ≡ entries 40 (v ∷ s ∷ g ∷ m ∷ n ∷ [])
+five_entries v s g m n a b d e p q r t = rw (t, r, q, p) refl

@@ -4,8 +4,9 @@ use native.Mathlib.Nat.{div-div-eq-div-mul}
 use Rattle.std.proofs.lemmas.Nat.{div-mul-add, mod-mul-add}
 use Rattle.std.proofs.lemmas.List.{drop_more}
 use Rattle.task.specs.declared.faults.Fault.{Fault}
-use Rattle.task.specs.declared.tables.Task.{Task}
-use Rattle.task.specs.Answers.{held, Reads}
+use Rattle.task.specs.declared.accepted.Accepted.{Accepted}
+use Rattle.task.specs.Answers.{held}
+use Rattle.task.specs.Laws.{Reads}
 use Rattle.task.specs.Files.{Bodies, word, place, size}
 use Rattle.task.specs.Layouts.{coded, parts, layout, Restores}
 use Rattle.task.proofs.Acceptings.{laid_out}
@@ -73,10 +74,10 @@ same_ten : (a b c d e f g h i j a' b' c' d' e' f' g' h' i' j' : ℕ) (r r' : Lis
     → ten a b c d e f g h i j r ≡ ten a' b' c' d' e' f' g' h' i' j' r'
 same_ten a b c d e f g h i j a' b' c' d' e' f' g' h' i' j' r r' p0 p1 p2 p3 p4 p5 p6 p7 p8 p9 p10 = cc
 
-pub restores : (file : List ℕ) (bytes : (i : ℕ) → Fits w8 (get_or file i 0)) (r : Result Task Fault) → Reads file r → Restores file r
+pub restores : (file : List ℕ) (bytes : (i : ℕ) → Fits w8 (get_or file i 0)) (r : Result Accepted Fault) → Reads file r → Restores file r
 restores file bytes (Err e) h = tt
-restores file bytes (Ok t) h =
-    let b = held t in
+restores file bytes (Ok a) h =
+    let b = held a.task in
     let s = (laid_out file b h).0 in
     sym (file_is file bytes s.long
     ∙ same_ten _ _ _ _ _ _ _ _ _ _ _ _ _ _ _ _ _ _ _ _ _ _ s.values.0 s.values.1 s.start.0 s.start.1 s.goal.0 s.goal.1 s.moves.0 s.moves.1 s.names.0 s.names.1 s.parts

@@ -1,5 +1,5 @@
 -- What the calls on task files answer.
-use Rattle.std.specs.Prelude.{◌≡◌, ℕ, ◌+◌, ◌<◌, ◌≤◌, true, List, length, take, drop, Some, None, Ok, Err, Option, Result, slice_index}
+use Rattle.std.specs.Prelude.{◌≡◌, ℕ, ◌<◌, ◌≤◌, List, ◌∷◌, ◌++◌, length, take, drop, Some, None, Ok, Err, Option, Result}
 use Rattle.std.specs.Borrow.{Bor}
 use Rattle.rows.specs.declared.refusals.Refusal.{Refusal}
 use Rattle.rows.specs.declared.refusals.Refusal.TheVariants as refusal
@@ -8,7 +8,7 @@ use Rattle.task.specs.declared.faults.Fault.TheVariants.{Stub, Contents, Count, 
 use Rattle.task.specs.declared.tables.Task.{Task}
 use Rattle.task.specs.declared.tables.Step.{Step}
 use Rattle.rows.specs.Rows.{Move}
-use Rattle.task.specs.Files.{Bodies, width, move_count, move_at, judged, reading, named, name_in, naming}
+use Rattle.task.specs.Files.{Bodies, width, move_count, move_at, judged, name_in, naming}
 
 abbrev pub refusal_of : Fault → Refusal
 refusal_of Stub = refusal.Stub
@@ -23,7 +23,7 @@ abbrev pub held : Task → Bodies
 held t = record { values = t.values.now; start = t.start.now; goal = t.goal.now; moves = t.moves.now; names = t.names.now }
 
 abbrev pub move_of : Step → Move
-move_of s = record { price = s.price; condition = s.condition.now; effect = s.effect.now }
+move_of s = record { price = s.price; condition = s.operator.condition.now; effect = s.operator.effect.now }
 
 abbrev pub Steps : Bodies → ℕ → Option Step → Type 0
 Steps b k None = move_count b ≤ k
@@ -33,17 +33,10 @@ abbrev pub Checks : Bodies → Result Unit Fault → Type 0
 Checks b (Ok o) = judged b ≡ Ok b
 Checks b (Err e) = judged b ≡ Err e
 
-abbrev pub Reads : List ℕ → Result Task Fault → Type 0
-Reads file (Ok t) = reading file ≡ Ok (held t)
-Reads file (Err e) = reading file ≡ Err e
-
--- the place of the length byte of name k of some names, or nothing
-abbrev pub FindsName : List ℕ → ℕ → Option ℕ → Type 0
-FindsName bs k (Some at) =
-    (at < length bs)
-    × ((base : ℕ) → name_in base bs k ≡ Some (take (slice_index bs at) (drop (at + 1) bs), base + at + 1))
-    × ((m : ℕ) → named m bs ≡ true → at + (1 + slice_index bs at) ≤ length bs)
-FindsName bs k None = (base : ℕ) → name_in base bs k ≡ None
+-- the first of some names, which stands behind its length, and what follows it; or that no whole name begins
+abbrev pub FirstName : List ℕ → Option (Bor (List ℕ) × Bor (List ℕ)) → Type 0
+FirstName bs (Some p) = bs ≡ length p.0.now ∷ (p.0.now ++ p.1.now)
+FirstName bs None = (name after : List ℕ) → bs ≡ length name ∷ (name ++ after) → ⊥
 
 -- a name that is looked up among names that begin at a place
 abbrev pub LooksUp : ℕ → List ℕ → ℕ → Option (Bor (List ℕ) × ℕ) → Type 0

@@ -3,8 +3,8 @@ use Rattle.std.specs.Prelude.{◌≡◌, ℕ, ◌+◌, ◌*◌, ◌<◌, ◌≤�
 use Rattle.std.specs.List.{AllByRecursion}
 use Rattle.rows.specs.Rows.{Row, Move}
 use Rattle.task.specs.declared.faults.Fault.{Fault}
-use Rattle.task.specs.declared.tables.Task.{Task}
-use Rattle.task.specs.Files.{Bodies, place, size, width, record_size, move_at}
+use Rattle.task.specs.declared.accepted.Accepted.{Accepted}
+use Rattle.task.specs.Files.{Bodies, place, size, width, record_size, move_at, reading}
 use Rattle.task.specs.Answers.{held}
 
 -- entry i of the contents has this place and this length
@@ -64,7 +64,12 @@ pub record Sound (b : Bodies) : Type 0 where
   pub each_named : length spellings ≡ count
   pub spelling : AllByRecursion Spelling spellings
 
+-- what the reader answers
+abbrev pub Reads : List ℕ → Result Accepted Fault → Type 0
+Reads file (Ok a) = reading file ≡ Ok (held a.task)
+Reads file (Err e) = reading file ≡ Err e
+
 -- a file is accepted exactly if it is the layout of five sound bodies, which are then the ones that are handed out
-abbrev pub Accepts : List ℕ → Result Task Fault → Type 0
-Accepts file (Ok t) = Tiles file (held t) × Sound (held t)
+abbrev pub Accepts : List ℕ → Result Accepted Fault → Type 0
+Accepts file (Ok a) = Tiles file (held a.task) × Sound (held a.task)
 Accepts file (Err e) = (b : Bodies) → Tiles file b → Sound b → ⊥

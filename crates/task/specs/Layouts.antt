@@ -4,7 +4,7 @@ use Rattle.rows.specs.declared.refusals.Refusal.{Refusal}
 use Rattle.rows.specs.declared.refusals.Refusal.TheVariants.{ShortBuffer}
 use Rattle.rows.specs.Calls.{over}
 use Rattle.task.specs.declared.faults.Fault.{Fault}
-use Rattle.task.specs.declared.tables.Task.{Task}
+use Rattle.task.specs.declared.accepted.Accepted.{Accepted}
 use Rattle.task.specs.Files.{Bodies, judged, reading}
 use Rattle.task.specs.Answers.{refusal_of, held}
 
@@ -59,6 +59,6 @@ ReadsBack b out (Ok n) = reading (take n out) ≡ Ok b
 ReadsBack b out (Err e) = Unit {0}
 
 -- writing what was read gives the file back, byte for byte
-abbrev pub Restores : List ℕ → Result Task Fault → Type 0
-Restores file (Ok t) = layout (held t) ≡ file
+abbrev pub Restores : List ℕ → Result Accepted Fault → Type 0
+Restores file (Ok a) = layout (held a.task) ≡ file
 Restores file (Err e) = Unit {0}

@@ -1,10 +1,13 @@
-ghost use Rattle.std.specs.Prelude.{◌≡◌};
+ghost use Rattle.std.specs.Prelude.{◌≡◌, Some};
+ghost use Rattle.rows.specs.Refusals.{word};
 ghost use Rattle.task.specs.Answers.{refusal_of};
 
 use rows::refusals::Refusal;
+use std::error::Error;
+use std::fmt;
 
 // Why the reader refuses a file, in the order in which it looks.
-#[derive(Clone, Copy, PartialEq, Eq, Debug)]
+#[derive(Clone, Copy, Debug, PartialEq, Eq, Hash)]
 pub enum Fault {
     Stub,
     Contents,
@@ -27,5 +30,23 @@ impl Fault {
             Fault::Price => Refusal::Price,
             Fault::Name => Refusal::Name,
         }
+    }
+}
+
+impl fmt::Display for Fault {
+    ghost output = { λ fault. Some (word (refusal_of fault)) };
+
+    fn fmt<W: fmt::Write>(&self, f: &mut fmt::Formatter<W>) -> fmt::Result {
+        f.write_str(self.refusal().word())
+    }
+}
+
+impl Error for Fault {}
+
+impl From<Fault> for Refusal {
+    ghost from_gives = { λ fault refusal. refusal ≡ refusal_of fault };
+
+    fn from(fault: Fault) -> Refusal {
+        fault.refusal()
     }
 }

@@ -5,6 +5,8 @@ ghost use Rattle.task.specs.Files.{word};
 
 pub mod accepted;
 mod checks;
+mod contents;
+mod counted;
 pub mod faults;
 mod moves;
 mod names;
@@ -17,6 +19,9 @@ pub use names::name;
 pub use reader::read;
 pub use sample::write_sample;
 pub use writer::write;
+
+// The bytes of the longest task file that is read.
+pub const LONGEST_FILE: usize = 32_768;
 
 // The 32-bit number at a place, low byte first.
 fn word(bytes: &[u8], at: usize) -> u32

@@ -1,23 +1,21 @@
 ghost use Rattle.std.specs.Prelude.{◌≡◌, ℕ, ◌+◌, ◌^◌, ◌<◌, true, length};
 ghost use Rattle.task.specs.Files.{named};
-ghost use Rattle.task.specs.Answers.{FindsName, LooksUp, NamesMove, LiesInFile};
+ghost use Rattle.task.specs.Answers.{FirstName, LooksUp, NamesMove, LiesInFile};
 
 use crate::accepted::Accepted;
 use crate::faults::Fault;
 use crate::reader::read;
 
-// The place of the length byte of name k of some names.
-fn find(names: &[u8], k: usize) -> Option<usize>
-    ensures { FindsName names.now k result }
+// The first of some names, and what follows it; nothing where no whole name begins.
+pub(crate) fn first_name(names: &[u8]) -> Option<(&[u8], &[u8])>
+    ensures { FirstName names.now result }
 {
-    let mut at = 0;
-    for _i in 0..k {
-        if at >= names.len() {
-            return None;
-        }
-        at += 1 + usize::from(names[at]);
+    let (length, rest) = names.split_first()?;
+    let length = usize::from(*length);
+    if length > rest.len() {
+        return None;
     }
-    if at < names.len() { Some(at) } else { None }
+    Some(rest.split_at(length))
 }
 
 // Name k of lawful names that begin at a place, with the place of its first byte.
@@ -26,13 +24,13 @@ fn look_up(names: &[u8], base: usize, k: usize) -> Option<(&[u8], usize)>
     requires within { base + length names.now < 2 ^ 64 }
     ensures { LooksUp base names.now k result }
 {
-    match find(names, k) {
-        None => None,
-        Some(at) => Some((
-            &names[at + 1..at + 1 + usize::from(names[at])],
-            base + at + 1,
-        )),
+    let mut rest = names;
+    for _i in 0..k {
+        let (_, after) = first_name(rest)?;
+        rest = after;
     }
+    let (name, after) = first_name(rest)?;
+    Some((name, base + names.len() - after.len() - name.len()))
 }
 
 impl<'a> Accepted<'a> {
@@ -49,12 +47,7 @@ pub fn name(file: &[u8], number: u16) -> Result<Option<(&[u8], usize)>, Fault>
     ensures naming { NamesMove file.now number result }
     ensures part { LiesInFile file.now result }
 {
-    match read(file) {
-        Err(fault) => Err(fault),
-        Ok(task) => Ok(look_up(
-            task.names,
-            file.len() - task.names.len(),
-            usize::from(number),
-        )),
-    }
+    let names = read(file)?.task.names;
+    let base = file.len() - names.len();
+    Ok(look_up(names, base, usize::from(number)))
 }

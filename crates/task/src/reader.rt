@@ -1,102 +1,85 @@
-ghost use Rattle.std.specs.Prelude.{◌≡◌, ℕ, ◌+◌, ◌*◌, ◌<◌, ◌≤◌, Bool, true, false, length};
+ghost use Rattle.std.specs.Prelude.{◌≡◌, ◌+◌, ◌<◌, ◌≤◌, true, length};
 ghost use Rattle.task.specs.Files.{place, size, body, bodies, tiles};
-ghost use Rattle.task.specs.Answers.{held, Reads};
-ghost use Rattle.task.specs.Laws.{Accepts};
+ghost use Rattle.task.specs.Answers.{held};
+ghost use Rattle.task.specs.Laws.{Reads, Accepts};
 ghost use Rattle.task.specs.Layouts.{Restores};
 
+use crate::accepted::Accepted;
+use crate::contents::Contents;
 use crate::faults::Fault;
 use crate::tables::Task;
 use crate::word;
+use std::ops::Range;
 
 // The bytes of the contents, which are five entries of a place and a length.
 const CONTENTS: usize = 40;
 
-// Where body i begins.
-fn place(file: &[u8], i: usize) -> usize
-    requires few { i < 5 }
-    requires long { 40 ≤ length file.now }
-    ensures value { result ≡ place file.now i }
-    ensures small { result < 4294967296 }
-{
-    word(file, 8 * i) as usize
-}
+impl<'a> Contents<'a> {
+    // Where body i begins and ends.
+    fn range(&self, i: usize) -> Range<usize>
+        requires { i < 5 }
+        ensures start { result.start ≡ place self.now.file.now i }
+        ensures end { result.end ≡ place self.now.file.now i + size self.now.file.now i }
+    {
+        let start = word(self.file, 8 * i) as usize;
+        start..start + word(self.file, 8 * i + 4) as usize
+    }
 
-// How long body i is.
-fn size(file: &[u8], i: usize) -> usize
-    requires few { i < 5 }
-    requires long { 40 ≤ length file.now }
-    ensures value { result ≡ size file.now i }
-    ensures small { result < 4294967296 }
-{
-    word(file, 8 * i + 4) as usize
-}
+    // Whether the first body begins at 40, each other where the one before it ends, and the last ends with the file.
+    fn is_tiled(&self) -> bool
+        ensures { result ≡ tiles self.now.file.now }
+    {
+        self.range(0).start == CONTENTS
+            && self.range(0).end == self.range(1).start
+            && self.range(1).end == self.range(2).start
+            && self.range(2).end == self.range(3).start
+            && self.range(3).end == self.range(4).start
+            && self.range(4).end == self.file.len()
+    }
 
-// Where body i ends.
-fn end(file: &[u8], i: usize) -> usize
-    requires few { i < 5 }
-    requires long { 40 ≤ length file.now }
-    ensures { result ≡ place file.now i + size file.now i }
-{
-    place(file, i) + size(file, i)
-}
+    // Body i, as that part of the file.
+    fn body(&self, i: usize) -> &'a [u8]
+        requires few { i < 5 }
+        requires within { place self.now.file.now i + size self.now.file.now i ≤ length self.now.file.now }
+        ensures { result.now ≡ body self.now.file.now i }
+    {
+        let range = self.range(i);
+        &self.file[range.start..range.end]
+    }
 
-// Whether the first body begins at 40, each other where the one before it ends, and the last ends with the file.
-fn is_tiled(file: &[u8]) -> bool
-    requires { 40 ≤ length file.now }
-    ensures { result ≡ tiles file.now }
-{
-    place(file, 0) == CONTENTS
-        && end(file, 0) == place(file, 1)
-        && end(file, 1) == place(file, 2)
-        && end(file, 2) == place(file, 3)
-        && end(file, 3) == place(file, 4)
-        && end(file, 4) == file.len()
-}
-
-// Body i, as that part of the file.
-fn body(file: &[u8], i: usize) -> &[u8]
-    requires few { i < 5 }
-    requires long { 40 ≤ length file.now }
-    requires within { place file.now i + size file.now i ≤ length file.now }
-    ensures { result.now ≡ body file.now i }
-{
-    &file[place(file, i)..end(file, i)]
-}
-
-// The five bodies, as parts of the file.
-fn split(file: &[u8]) -> Task<'_>
-    requires long { 40 ≤ length file.now }
-    requires tiled { tiles file.now ≡ true }
-    ensures { held result ≡ bodies file.now }
-{
-    Task {
-        values: body(file, 0),
-        start: body(file, 1),
-        goal: body(file, 2),
-        moves: body(file, 3),
-        names: body(file, 4),
+    // The five bodies, as parts of the file.
+    fn split(&self) -> Task<'a>
+        requires { tiles self.now.file.now ≡ true }
+        ensures { held result ≡ bodies self.now.file.now }
+    {
+        Task {
+            values: self.body(0),
+            start: self.body(1),
+            goal: self.body(2),
+            moves: self.body(3),
+            names: self.body(4),
+        }
     }
 }
 
 // The five bodies of a file, or the first fault in order.
-fn parse(file: &[u8]) -> Result<Task<'_>, Fault>
+fn parse(file: &[u8]) -> Result<Accepted<'_>, Fault>
     ensures { Reads file.now result }
 {
     if file.len() < CONTENTS {
         return Err(Fault::Stub);
     }
-    if !is_tiled(file) {
+    let contents = Contents { file };
+    if !contents.is_tiled() {
         return Err(Fault::Contents);
     }
-    let task = split(file);
-    match task.check() {
-        Ok(()) => Ok(task),
-        Err(fault) => Err(fault),
-    }
+    let task = contents.split();
+    task.check()?;
+    Ok(Accepted { task })
 }
 
 // Reads a task file: its five bodies as parts of it, or the fault that refuses it.
-pub fn read(file: &[u8]) -> Result<Task<'_>, Fault>
+pub fn read(file: &[u8]) -> Result<Accepted<'_>, Fault>
     ensures reading { Reads file.now result }
     ensures accepted { Accepts file.now result }
     ensures restored { Restores file.now result }

@@ -4,10 +4,8 @@ ghost use Rattle.task.specs.Samples.{sample, SampleFile};
 
 use crate::tables::Task;
 use crate::write;
+use rows::checks::MARK;
 use rows::refusals::Refusal;
-
-// The byte for undefined, short so that the rows below can be read.
-const U: u8 = 255;
 
 // Writes the file of the sample line, 97 bytes. Its gate (variable 0) is shut or open, its load (variable 1) is in the pit, on
 // the belt or in the hopper; the load is wanted in the hopper.
@@ -19,7 +17,7 @@ pub fn write_sample(out: &mut [u8]) -> Result<usize, Refusal>
         &Task {
             values: &[2, 3],
             start: &[0, 0],
-            goal: &[U, 2],
+            goal: &[MARK, 2],
             // open, tip, run and carry: each its price, its condition and its effect
             moves: b"\x02\0\0\0\x00\xff\x01\xff\
                 \x05\0\0\0\x01\x00\xff\x01\

@@ -1,3 +1,5 @@
+use rows::operators::Operator;
+
 // The five bodies of a task file. Anybody may make one; the reader's are parts of the file and sound.
 #[derive(Clone, Copy)]
 pub struct Task<'a> {
@@ -12,6 +14,5 @@ pub struct Task<'a> {
 #[derive(Clone, Copy)]
 pub struct Step<'a> {
     pub price: u32,
-    pub condition: &'a [u8],
-    pub effect: &'a [u8],
+    pub operator: Operator<'a>,
 }

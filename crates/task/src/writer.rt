@@ -1,7 +1,7 @@
-ghost use Rattle.std.specs.Prelude.{◌≡◌, ◌+◌, ◌<◌, ◌≤◌, [], ◌∷◌, ◌++◌, length, take};
+ghost use Rattle.std.specs.Prelude.{◌≡◌, ◌+◌, ◌<◌, ◌≤◌, ◌++◌, length, take};
 ghost use Rattle.rows.specs.Calls.{over};
 ghost use Rattle.task.specs.Answers.{held};
-ghost use Rattle.task.specs.Layouts.{entry, entries, parts, layout, total, Writing, writing, ReadsBack};
+ghost use Rattle.task.specs.Layouts.{entry, contents, parts, layout, total, Writing, writing, ReadsBack};
 
 use crate::tables::Task;
 use rows::refusals::Refusal;
@@ -17,31 +17,30 @@ fn put(out: &mut [u8], at: usize, piece: &[u8]) -> usize
     end
 }
 
-// Writes an entry of the contents.
-fn put_entry(out: &mut [u8], at: usize, place: u32, size: u32) -> usize
-    requires { at + 8 ≤ length out.old }
-    ensures end { result ≡ at + 8 }
-    ensures after { out.new ≡ over (take at out.old ++ entry place size) out.old }
+// Writes the entry of a body that begins at this place, and answers where the body ends.
+fn put_entry(out: &mut [u8], at: usize, place: u32, body: &[u8]) -> u32
+    requires room { at + 8 ≤ length out.old }
+    requires small { place + length body.now < 4294967296 }
+    ensures end { result ≡ place + length body.now }
+    ensures after { out.new ≡ over (take at out.old ++ entry place (length body.now)) out.old }
 {
+    let size = body.len() as u32;
     let middle = put(out, at, &place.to_le_bytes());
-    put(out, middle, &size.to_le_bytes())
+    put(out, middle, &size.to_le_bytes());
+    place + size
 }
 
-// Writes the contents for bodies of these lengths.
-fn put_contents(out: &mut [u8], values: u32, start: u32, goal: u32, moves: u32, names: u32)
+// Writes the contents: an entry for each body.
+fn put_contents(out: &mut [u8], task: &Task<'_>)
     requires room { 40 ≤ length out.old }
-    requires small { 40 + values + start + goal + moves < 4294967296 }
-    ensures { out.new ≡ over (entries 40 (values ∷ start ∷ goal ∷ moves ∷ names ∷ [])) out.old }
+    requires small { total (held task.now) < 4294967296 }
+    ensures { out.new ≡ over (contents (held task.now)) out.old }
 {
-    let start_place = 40 + values;
-    let goal_place = start_place + start;
-    let moves_place = goal_place + goal;
-    let names_place = moves_place + moves;
-    let first = put_entry(out, 0, 40, values);
-    let second = put_entry(out, first, start_place, start);
-    let third = put_entry(out, second, goal_place, goal);
-    let fourth = put_entry(out, third, moves_place, moves);
-    let _ = put_entry(out, fourth, names_place, names);
+    let start = put_entry(out, 0, 40, task.values);
+    let goal = put_entry(out, 8, start, task.start);
+    let moves = put_entry(out, 16, goal, task.goal);
+    let names = put_entry(out, 24, moves, task.moves);
+    put_entry(out, 32, names, task.names);
 }
 
 // Writes the five bodies behind the contents, and answers where they end.
@@ -76,12 +75,7 @@ fn put_task(out: &mut [u8], task: &Task<'_>) -> usize
     ensures end { result ≡ total (held task.now) }
     ensures after { out.new ≡ over (layout (held task.now)) out.old }
 {
-    let values = task.values.len() as u32;
-    let start = task.start.len() as u32;
-    let goal = task.goal.len() as u32;
-    let moves = task.moves.len() as u32;
-    let names = task.names.len() as u32;
-    put_contents(out, values, start, goal, moves, names);
+    put_contents(out, task);
     put_bodies(out, task)
 }
 
@@ -89,15 +83,11 @@ fn put_task(out: &mut [u8], task: &Task<'_>) -> usize
 fn fill(task: &Task<'_>, out: &mut [u8]) -> Result<usize, Refusal>
     ensures { record { answer = result; buffer = out.new } ≡ writing (held task.now) out.old }
 {
-    match task.check() {
-        Err(fault) => Err(fault.refusal()),
-        Ok(()) => {
-            if out.len() < size(task) {
-                return Err(Refusal::ShortBuffer);
-            }
-            Ok(put_task(out, task))
-        }
+    task.check()?;
+    if out.len() < size(task) {
+        return Err(Refusal::ShortBuffer);
     }
+    Ok(put_task(out, task))
 }
 
 // Writes a task file from its five bodies, and answers its length. The bodies are checked as the reader checks them.

@@ -1,15 +1,17 @@
-use Rattle.std.proofs.Common.{sym, arith}
+use Rattle.std.proofs.Common.{rules, ◌∙◌, arith}
+use borrow.Author.Tests.{tests}
+use Rattle.std.proofs.lemmas.Iterator.{YieldsList-from_slice, YieldsList-from_zip}
+use Rattle.std.proofs.lemmas.Iterator.Search.{all_from_yields_List}
 use Rattle.std.proofs.lemmas.Bool.Decides.{nat_tests}
 use Rattle.rows.specs.Rows.{covers_at}
-use Rattle.rows.proofs.Both.{both_from, both_not_length, both_not_at}
+use Rattle.rows.proofs.Both.{both_pairs, both_not_length}
 use Rattle.rows.proofs.inner.row_covers.Goals as goal
 
 pub returns-then-s-t : goal.returns-then-s-t
-returns-then-s-t c = sym (both_not_length covers_at c.args.s.now c.args.t.now c.if-s-t.true)
+returns-then-s-t c =
+    all_from_yields_List (λ q. covers_at q.0 q.1) c.all.new.self _ c.all.result c.all.ensures.ran
+    (YieldsList-from_zip (YieldsList-from_slice c.args.s.now (cc)) (YieldsList-from_slice c.args.t.now (cc))) (λ x b q k. search (rules, tests))
+    ∙ both_pairs covers_at c.args.s.now c.args.t.now (omega arith)
 
-pub returns-then-s-v-2 : goal.returns-then-s-v-2
-returns-then-s-v-2 c =
-    sym (both_not_at covers_at c.args.s.now c.args.t.now c.loop-v.v (omega arith) (omega arith) (grind (arith, nat_tests)))
-
-pub returns : goal.returns
-returns c = sym (both_from covers_at c.args.s.now c.args.t.now (omega arith) (λ v h. c.loop-v.invariant v (omega arith)))
+pub returns-else-s-t : goal.returns-else-s-t
+returns-else-s-t c = grind (arith, nat_tests, both_not_length)

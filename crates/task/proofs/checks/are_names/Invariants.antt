@@ -1,7 +1,7 @@
-use Rattle.std.proofs.Common.{◌≡◌, ◌-◌, ◌≤◌, length, drop}
+use Rattle.std.proofs.Common.{◌≡◌, ◌-◌}
 use Rattle.task.specs.Files.{named}
 use Rattle.task.proofs.checks.are_names.Given as goal
 
--- the names from here on decide
+-- the names that are left decide
 abbrev pub invariant-loop-k : goal.invariant-loop-k
-invariant-loop-k l = (l.at ≤ length l.names) × (named l.count l.names ≡ named (l.count - l._k) (drop l.at l.names))
+invariant-loop-k l = named l.count l.names ≡ named (l.count - l._k) l.rest

@@ -1,11 +1,11 @@
-use Rattle.std.proofs.Common.{sym, arith}
-use Rattle.std.proofs.lemmas.Bool.Decides.{nat_tests}
-use Rattle.rows.proofs.Alls.{all_from, all_not_at}
+use Rattle.std.proofs.Common.{rules, tests, ◌∙◌}
+use Rattle.std.proofs.lemmas.Iterator.{YieldsList-from_slice}
+use Rattle.std.proofs.lemmas.Iterator.Search.{all_from_yields_List}
+use Rattle.rows.proofs.Alls.{all_is}
 use Rattle.task.specs.Files.{printable}
 use Rattle.task.proofs.checks.is_printable.Goals as goal
 
-pub returns-then-c-lt33 : goal.returns-then-c-lt33
-returns-then-c-lt33 c = sym (all_not_at printable c.args.text.now c.loop-c.c-index (omega arith) (grind (arith, nat_tests)))
-
 pub returns : goal.returns
-returns c = sym (all_from printable c.args.text.now (λ i h. c.loop-c.invariant i (omega arith)))
+returns c =
+    all_from_yields_List printable _ _ c.all.result c.all.ensures.ran (YieldsList-from_slice c.args.text.now (cc)) (λ x b q k. search (rules, tests))
+    ∙ all_is printable c.args.text.now

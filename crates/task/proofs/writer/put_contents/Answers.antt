@@ -1,18 +1,18 @@
-use Rattle.std.proofs.Common.{◌+◌, [], refl}
+use Rattle.std.proofs.Common.{[], length, refl, ap, ◌∙◌}
+use Rattle.rows.specs.Calls.{over}
 use Rattle.task.specs.Layouts.{entry}
-use Rattle.task.proofs.Pieces.{Done, next}
+use Rattle.task.proofs.Pieces.{Done, next, five_entries}
 use Rattle.task.proofs.writer.put_contents.Goals as goal
 
 pub returns : goal.returns
 returns c =
     let old = c.args.out.now in
-    let v = c.args.values in
-    let s = c.args.start in
-    let g = c.args.goal in
-    let m = c.args.moves in
+    let t = c.args.task.now in
     let none : Done 0 [] old old = record { long = refl; is = refl } in
-    let one = next (entry 40 v) none c.put_entry-first.ensures.end c.put_entry-first.ensures.after in
-    let two = next (entry (40 + v) s) one c.put_entry-second.ensures.end c.put_entry-second.ensures.after in
-    let three = next (entry (40 + v + s) g) two c.put_entry-third.ensures.end c.put_entry-third.ensures.after in
-    let four = next (entry (40 + v + s + g) m) three c.put_entry-fourth.ensures.end c.put_entry-fourth.ensures.after in
-    (next (entry (40 + v + s + g + m) c.args.names) four c.put_entry.ensures.end c.put_entry.ensures.after).is
+    let one = next {to = 8} (entry 40 (length t.values.now)) none refl c.put_entry-start.ensures.after in
+    let two = next {to = 16} (entry c.put_entry-start.result (length t.start.now)) one refl c.put_entry-goal.ensures.after in
+    let three = next {to = 24} (entry c.put_entry-goal.result (length t.goal.now)) two refl c.put_entry-moves.ensures.after in
+    let four = next {to = 32} (entry c.put_entry-moves.result (length t.moves.now)) three refl c.put_entry-names.ensures.after in
+    let five = next {to = 40} (entry c.put_entry-names.result (length t.names.now)) four refl c.put_entry.ensures.after in
+    five.is ∙ ap (λ d. over d old) (five_entries (length t.values.now) (length t.start.now) (length t.goal.now) (length t.moves.now) (length t.names.now) _ _ _ _
+    c.put_entry-start.ensures.end c.put_entry-goal.ensures.end c.put_entry-moves.ensures.end c.put_entry-names.ensures.end)
