@@ -69,17 +69,17 @@ at_step b k s h = nth_move b k h.0 ∙ ap Some (sym h.1)
 pub no_step : (b : Bodies) (k : ℕ) (g : Row) → move_count b ≤ k → back (task_of b) k g ≡ None
 no_step b k g h = ap (λ o. over o g) (nth_none (task_of b).moves k (omega (arith, move_count_lem b)))
 
-pub step_back : (b : Bodies) (k : ℕ) (s : Step) (g : Row) → Steps b k (Some s) → back (task_of b) k g ≡ pulled s.condition.now s.effect.now g
+pub step_back : (b : Bodies) (k : ℕ) (s : Step) (g : Row) → Steps b k (Some s) → back (task_of b) k g ≡ pulled s.operator.condition.now s.operator.effect.now g
 step_back b k s g h = ap (λ o. over o g) (at_step b k s h)
 
 pub step_price : (b : Bodies) (k : ℕ) (s : Step) → Steps b k (Some s) → s.price ≡ price (task_of b) k
 step_price b k s h = sym (ap price_of (at_step b k s h))
 
 pub step_even : (b : Bodies) (k : ℕ) (s : Step) (g out : List ℕ) → Accepted (task_of b) → Steps b k (Some s) → length g ≡ width (task_of b) → length out ≡ width (task_of b)
-    → even s.condition.now s.effect.now g out ≡ true
+    → even s.operator.condition.now s.operator.effect.now g out ≡ true
 step_even b k s g out a h lg lo =
     let m = a.move k (move_of s) (at_step b k s h) in
-    even_from s.condition.now s.effect.now g out (fits_length b.values s.condition.now m.condition ∙ sym lg) (fits_length b.values s.effect.now m.effect ∙ sym lg) (lo ∙ sym lg)
+    even_from s.operator.condition.now s.operator.effect.now g out (fits_length b.values s.operator.condition.now m.condition ∙ sym lg) (fits_length b.values s.operator.effect.now m.effect ∙ sym lg) (lo ∙ sym lg)
 
 apart : {X : Type 0} → true ≡ false → X
 apart e = let z : ◌≡◌ {A = ℕ} 0 1 = cc in absurd (omega arith)

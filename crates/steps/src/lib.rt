@@ -17,7 +17,6 @@ mod visits;
 mod workspaces;
 
 use cost::costs::Cost;
-use rows::inner::regress_row;
 use rows::refusals::Refusal;
 use tables::Record;
 use task::accepted::Accepted;
@@ -85,14 +84,10 @@ fn regress(accepted: &Accepted<'_>, m: u16, row: &[u8], out: &mut [u8]) -> Optio
     requires out { length out.old ≡ width (task_of (held accepted.now.task)) }
     ensures { MatchOption result (back (task_of (held accepted.now.task)) m row.now ≡ None) (λ p. (back (task_of (held accepted.now.task)) m row.now ≡ Some out.new) × (p ≡ price (task_of (held accepted.now.task)) m)) }
 {
-    match accepted.step(usize::from(m)) {
-        None => None,
-        Some(step) => {
-            if regress_row(step.condition, step.effect, row, out) {
-                Some(step.price)
-            } else {
-                None
-            }
-        }
+    let step = accepted.step(usize::from(m))?;
+    if step.operator.regress_row(row, out) {
+        Some(step.price)
+    } else {
+        None
     }
 }
