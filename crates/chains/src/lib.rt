@@ -12,7 +12,7 @@ fn parent_at<K>(records: &[Record<K>], node: u16) -> u16
     requires { node < length records.now }
     ensures { (d : Record K) → result ≡ (slice_index_or records.now node d).parent }
 {
-    records[node as usize].parent
+    records[usize::from(node)].parent
 }
 
 // The move of a node.
@@ -20,14 +20,14 @@ fn move_at<K>(records: &[Record<K>], node: u16) -> u16
     requires { node < length records.now }
     ensures { (d : Record K) → result ≡ (slice_index_or records.now node d).step }
 {
-    records[node as usize].step
+    records[usize::from(node)].step
 }
 
 // Whether the parent is below its node, and the move is one of so many.
-fn is_link(node: u16, parent: u16, step: u16, moves: u16) -> bool
+fn is_link(node: u16, parent: u16, step: u16, moves: usize) -> bool
     ensures { result ≡ nat_lt parent node && nat_lt step moves }
 {
-    parent < node && step < moves
+    parent < node && usize::from(step) < moves
 }
 
 // Whether a chain ends here: node 0's own move is never read.
@@ -38,11 +38,11 @@ fn is_root(node: u16) -> bool
 }
 
 // The parent of a node, not node 0, if its record can be read.
-fn follow<K>(records: &[Record<K>], node: u16, moves: u16) -> Option<u16>
+fn follow<K>(records: &[Record<K>], node: u16, moves: usize) -> Option<u16>
     requires { 0 < node }
     ensures { MatchOption result ((x : Record K) → Link records.now moves node x → ⊥) (λ p. (x : Record K) × Link records.now moves node x × (p ≡ x.parent)) }
 {
-    if node as usize >= records.len() {
+    if usize::from(node) >= records.len() {
         return None;
     }
     let parent = parent_at(records, node);
@@ -54,19 +54,15 @@ fn follow<K>(records: &[Record<K>], node: u16, moves: u16) -> Option<u16>
 }
 
 // How many moves the chain of a node has, or nothing if it is broken.
-pub fn chain_length<K>(records: &[Record<K>], node: u16, moves: u16) -> Option<usize>
+pub fn chain_length<K>(records: &[Record<K>], node: u16, moves: usize) -> Option<usize>
     ensures { MatchOption result (Broken records.now moves node) (λ count. (ns : List ℕ) × Chain records.now moves node ns × (count ≡ length ns)) }
 {
+    // A while and a count: the parents stand in no slice or range that could be gone through.
     let mut at = node;
     let mut count: usize = 0;
     while !is_root(at) {
-        match follow(records, at, moves) {
-            None => return None,
-            Some(parent) => {
-                at = parent;
-                count += 1;
-            }
-        }
+        at = follow(records, at, moves)?;
+        count += 1;
     }
     Some(count)
 }
@@ -78,27 +74,28 @@ fn has_cells(out: &[u16], count: usize) -> bool
     count <= out.len()
 }
 
-// Writes a move into a cell.
-fn put(out: &mut [u16], cell: usize, step: u16)
-    requires { cell < length out.old }
-    ensures { out.new ≡ slice_set out.old cell step }
-{
-    out[cell] = step;
-}
-
 // Writes the moves of a node's chain, which is not broken and not longer than the buffer, into the first cells.
 fn write_chain<K>(records: &[Record<K>], node: u16, out: &mut [u16])
     requires { (moves : ℕ) × (ns : List ℕ) × Chain records.now moves node ns × (length ns ≤ length out.old) }
     ensures { (moves : ℕ) (ns : List ℕ) → Chain records.now moves node ns → length ns ≤ length out.old → out.new ≡ ns ++ drop (length ns) out.old }
 {
     let mut at = node;
-    let mut count: usize = 0;
-    while !is_root(at) {
-        put(out, count, move_at(records, at));
+    for cell in out.iter_mut() {
+        if is_root(at) {
+            return;
+        }
+        *cell = move_at(records, at);
         at = parent_at(records, at);
-        count += 1;
     }
 }
+
+// Holds the proofs of what is so of all chains.
+fn chains_are<K>(records: &[Record<K>], moves: usize)
+    ensures apart { NeverBoth records.now moves }
+    ensures one { OneChain records.now moves }
+    ensures few { FewMoves records.now moves }
+    ensures same { OneReading records.now moves }
+{}
 
 // Reads the moves of a node's chain: the node's own, its parent's and so on along the parents to node 0, whose own is left out.
 // Refused Torn if on the way a node, not node 0, is not stored, its parent is not below it or its move is not one of so many; then
@@ -106,7 +103,7 @@ fn write_chain<K>(records: &[Record<K>], node: u16, out: &mut [u16])
 pub fn read_chain<K>(
     records: &[Record<K>],
     node: u16,
-    moves: u16,
+    moves: usize,
     out: &mut [u16],
 ) -> Result<usize, Refusal>
     ensures read { Reading records.now moves node out.old result out.new }
@@ -115,14 +112,13 @@ pub fn read_chain<K>(
     ensures few { FewMoves records.now moves }
     ensures same { OneReading records.now moves }
 {
-    match chain_length(records, node, moves) {
-        None => Err(Refusal::Torn),
-        Some(count) => {
-            if !has_cells(out, count) {
-                return Err(Refusal::ShortBuffer);
-            }
-            write_chain(records, node, out);
-            Ok(count)
-        }
+    chains_are(records, moves);
+    let Some(count) = chain_length(records, node, moves) else {
+        return Err(Refusal::Torn);
+    };
+    if !has_cells(out, count) {
+        return Err(Refusal::ShortBuffer);
     }
+    write_chain(records, node, out);
+    Ok(count)
 }

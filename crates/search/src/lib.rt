@@ -4,4 +4,5 @@ pub mod jobs;
 pub mod opens;
 mod plans;
 mod reading;
+mod shapes;
 mod works;

@@ -2,11 +2,12 @@ ghost use Rattle.std.specs.Prelude.{◌≡◌, ℕ, List};
 ghost use Rattle.task.specs.Answers.{held};
 ghost use Rattle.search.specs.Opens.{OpensOn, Opens};
 
-use crate::jobs::Searching;
+use crate::jobs::{Searching, Shape};
 use cost::costs::Cost;
 use queue::queues::Queue;
 use rows::refusals::Refusal;
 use steps::begins::begin;
+use steps::numbers::{Numbers, Progress};
 use steps::tables::Tables;
 use store::stores::Store;
 use task::accepted::Accepted;
@@ -19,18 +20,19 @@ fn open_on<K: Cost, S: Store, Q: Queue<K>>(
 ) -> Result<Searching, Refusal>
     ensures { OpensOn K.Cost S.Store Q.Queue (held accepted.now.task) t.old t.new result }
 {
-    match begin(accepted, t) {
-        Err(e) => Err(e),
-        Ok(capacity) => Ok(Searching {
-            variables: accepted.task.values.len(),
-            moves: accepted.count(),
-            capacity,
-            stored: 1,
+    let capacity = begin(accepted, t)?;
+    Ok(Searching {
+        shape: Shape::of(accepted),
+        numbers: Numbers {
+            progress: Progress {
+                capacity,
+                stored: 1,
+                cover: None,
+            },
             kept: 0,
             waiting: 1,
-            cover: None,
-        }),
-    }
+        },
+    })
 }
 
 // Opens a job on the task in a file: in new tables, node 0 is stored and waits.
@@ -42,6 +44,6 @@ pub fn open<K: Cost, S: Store, Q: Queue<K>>(
 {
     match read(file) {
         Err(_) => Err(Refusal::BadFile),
-        Ok(task) => open_on(&Accepted { task }, t),
+        Ok(accepted) => open_on(&accepted, t),
     }
 }

@@ -1,9 +1,9 @@
 ghost use Rattle.std.specs.Prelude.{◌≡◌, ℕ, ◌<◌, List, length, MatchBool, slice_index_or};
 ghost use Rattle.task.specs.Answers.{held};
-ghost use Rattle.task.specs.Files.{width, move_count};
+ghost use Rattle.task.specs.Files.{width};
 ghost use Rattle.steps.specs.declared.tables.Record.{Record};
 ghost use Rattle.chains.specs.Chains.{Chain, Broken, Reading};
-ghost use Rattle.search.specs.Plans.{Numbered, Roomy, PlansOn, CostsOn};
+ghost use Rattle.search.specs.Plans.{Serves, PlansOn, CostsOn};
 ghost use Rattle.search.specs.Reads.{ReadsPlan, ReadsCost};
 
 use crate::jobs::Found;
@@ -16,100 +16,77 @@ use store::stores::Store;
 use task::accepted::Accepted;
 use task::read;
 
-// Whether the file has the variables and moves that the job notes.
-fn is_numbered(job: &Found, accepted: &Accepted<'_>) -> bool
-    ensures { MatchBool result (Numbered (held accepted.now.task) job.now) (Numbered (held accepted.now.task) job.now → ⊥) }
-{
-    accepted.task.values.len() == job.variables && accepted.count() == job.moves
-}
-
-// Whether row bytes and records have space for as many nodes as the job's capacity.
-fn is_roomy<K: Cost, S: Store, Q: Queue<K>>(
-    job: &Found,
-    accepted: &Accepted<'_>,
-    t: &Tables<'_, K, S, Q>,
-) -> bool
-    ensures { MatchBool result (Roomy (width (held accepted.now.task)) job.now t.now) (Roomy (width (held accepted.now.task)) job.now t.now → ⊥) }
-{
-    let capacity = job.capacity as usize;
-    let variables = accepted.task.values.len();
-    capacity <= t.records.len() && capacity * variables <= t.rows.len()
-}
-
-// The number of moves, which is at most 4,096.
-fn move_count(accepted: &Accepted<'_>) -> u16
-    ensures { result ≡ move_count (held accepted.now.task) }
-{
-    accepted.count() as u16
-}
-
-// Reads the moves of the found node's chain.
-fn read_moves<K: Cost, S: Store, Q: Queue<K>>(
-    job: &Found,
-    t: &Tables<'_, K, S, Q>,
-    moves: u16,
-    out: &mut [u16],
-) -> Result<usize, Refusal>
-    ensures { Reading t.now.records.now moves job.now.node out.old result out.new }
-{
-    let records: &[Record<K>] = t.records;
-    read_chain(records, job.node, moves, out)
-}
-
-// Whether the chain of the found node is not broken.
-fn is_chained<K: Cost, S: Store, Q: Queue<K>>(
-    job: &Found,
-    t: &Tables<'_, K, S, Q>,
-    moves: u16,
-) -> bool
-    ensures { MatchBool result ((ns : List ℕ) × Chain t.now.records.now moves job.now.node ns) (Broken t.now.records.now moves job.now.node) }
-{
-    let records: &[Record<K>] = t.records;
-    chain_length(records, job.node, moves).is_some()
-}
-
-// The cost noted of the found node.
-fn noted_cost<K: Cost, S: Store, Q: Queue<K>>(job: &Found, t: &Tables<'_, K, S, Q>) -> K
-    requires { job.now.node < length t.now.records.now }
-    ensures { (d : Record K) → result ≡ (slice_index_or t.now.records.now job.now.node d).cost }
-{
-    let records: &[Record<K>] = t.records;
-    records[job.node as usize].cost
-}
-
-// Reads the plan on an accepted file.
-fn plan_on<K: Cost, S: Store, Q: Queue<K>>(
-    job: &Found,
-    accepted: &Accepted<'_>,
-    t: &Tables<'_, K, S, Q>,
-    out: &mut [u16],
-) -> Result<usize, Refusal>
-    ensures { PlansOn (held accepted.now.task) job.now t.now out.old result out.new }
-{
-    if !is_numbered(job, accepted) || !is_roomy(job, accepted, t) {
-        return Err(Refusal::Torn);
-    }
-    read_moves(job, t, move_count(accepted), out)
-}
-
-// Reads the cost on an accepted file.
-fn cost_on<K: Cost, S: Store, Q: Queue<K>>(
-    job: &Found,
-    accepted: &Accepted<'_>,
-    t: &Tables<'_, K, S, Q>,
-) -> Result<K, Refusal>
-    ensures { CostsOn (held accepted.now.task) job.now t.now result }
-{
-    if !is_numbered(job, accepted) || !is_roomy(job, accepted, t) {
-        return Err(Refusal::Torn);
-    }
-    if !is_chained(job, t, move_count(accepted)) {
-        return Err(Refusal::Torn);
-    }
-    Ok(noted_cost(job, t))
-}
-
 impl Found {
+    // Whether the file has the shape that the job notes, and row bytes and records have space for as many nodes as its capacity.
+    fn is_served<K: Cost, S: Store, Q: Queue<K>>(
+        &self,
+        accepted: &Accepted<'_>,
+        t: &Tables<'_, K, S, Q>,
+    ) -> bool
+        ensures { MatchBool result (Serves (held accepted.now.task) self.now t.now) (Serves (held accepted.now.task) self.now t.now → ⊥) }
+    {
+        let capacity = usize::from(self.progress.capacity);
+        self.shape.is_of(accepted)
+            && capacity <= t.records.len()
+            && capacity * accepted.task.values.len() <= t.rows.len()
+    }
+
+    // Reads the moves of the found node's chain.
+    fn moves<K>(
+        &self,
+        records: &[Record<K>],
+        moves: usize,
+        out: &mut [u16],
+    ) -> Result<usize, Refusal>
+        ensures { Reading records.now moves self.now.node out.old result out.new }
+    {
+        read_chain(records, self.node, moves, out)
+    }
+
+    // Whether the chain of the found node is not broken.
+    fn is_chained<K>(&self, records: &[Record<K>], moves: usize) -> bool
+        ensures { MatchBool result ((ns : List ℕ) × Chain records.now moves self.now.node ns) (Broken records.now moves self.now.node) }
+    {
+        chain_length(records, self.node, moves).is_some()
+    }
+
+    // The cost noted of the found node.
+    fn noted_cost<K: Cost>(&self, records: &[Record<K>]) -> K
+        requires { self.now.node < length records.now }
+        ensures { (d : Record K) → result ≡ (slice_index_or records.now self.now.node d).cost }
+    {
+        records[usize::from(self.node)].cost
+    }
+
+    // Reads the plan on an accepted file.
+    fn plan_on<K: Cost, S: Store, Q: Queue<K>>(
+        &self,
+        accepted: &Accepted<'_>,
+        t: &Tables<'_, K, S, Q>,
+        out: &mut [u16],
+    ) -> Result<usize, Refusal>
+        ensures { PlansOn (held accepted.now.task) self.now t.now out.old result out.new }
+    {
+        if !self.is_served(accepted, t) {
+            return Err(Refusal::Torn);
+        }
+        self.moves(t.records, accepted.count(), out)
+    }
+
+    // Reads the cost on an accepted file.
+    fn cost_on<K: Cost, S: Store, Q: Queue<K>>(
+        &self,
+        accepted: &Accepted<'_>,
+        t: &Tables<'_, K, S, Q>,
+    ) -> Result<K, Refusal>
+        ensures { CostsOn (held accepted.now.task) self.now t.now result }
+    {
+        if !self.is_served(accepted, t) || !self.is_chained(t.records, accepted.count()) {
+            return Err(Refusal::Torn);
+        }
+        Ok(self.noted_cost(t.records))
+    }
+
     // Writes the moves of the plan into the buffer's first cells, in the order of doing, and answers their count. Refused Torn if
     // the file or the tables are not as the job left them, then Short buffer if there are more moves than cells.
     pub fn plan<K: Cost, S: Store, Q: Queue<K>>(
@@ -122,7 +99,7 @@ impl Found {
     {
         match read(file) {
             Err(_) => Err(Refusal::Torn),
-            Ok(task) => plan_on(self, &Accepted { task }, t, out),
+            Ok(accepted) => self.plan_on(&accepted, t, out),
         }
     }
 
@@ -136,7 +113,7 @@ impl Found {
     {
         match read(file) {
             Err(_) => Err(Refusal::Torn),
-            Ok(task) => cost_on(self, &Accepted { task }, t),
+            Ok(accepted) => self.cost_on(&accepted, t),
         }
     }
 }

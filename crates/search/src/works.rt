@@ -3,10 +3,10 @@ ghost use Rattle.task.specs.Answers.{held};
 ghost use Rattle.task.specs.Files.{task_of};
 ghost use Rattle.search.specs.Works.{Advanced, WorksOn, WorksSuited, Works, Untouched};
 
-use crate::jobs::{Found, NoPlan, OutOfSpace, Searching, Work, Worked};
+use crate::jobs::{Found, NoPlan, OutOfSpace, Searching, Unworked, Work, Worked};
 use cost::costs::Cost;
 use queue::queues::Queue;
-use steps::numbers::{Numbers, Turned};
+use steps::numbers::Turned;
 use steps::tables::Tables;
 use steps::turns::turn;
 use store::stores::Store;
@@ -22,56 +22,20 @@ fn advance<K: Cost, S: Store, Q: Queue<K>>(
     ensures advanced { Advanced K.Cost S.Store Q.Queue (task_of (held accepted.now.task)) job t.old t.new result }
     ensures unmoved { OnErr result (t.new ≡ t.old) }
 {
-    let variables = job.variables;
-    let moves = job.moves;
-    let capacity = job.capacity;
-    let stored = job.stored;
-    let kept = job.kept;
-    let waiting = job.waiting;
-    let cover = job.cover;
-    match turn(
-        accepted,
-        t,
-        Numbers {
-            capacity,
-            stored,
-            kept,
-            waiting,
-            cover,
-        },
-    ) {
-        Turned::Torn => Err(job),
-        Turned::Onward(n) => Ok(Worked::Searching(Searching {
-            variables,
-            moves,
-            capacity: n.capacity,
-            stored: n.stored,
-            kept: n.kept,
-            waiting: n.waiting,
-            cover: n.cover,
-        })),
-        Turned::Found(node) => {
+    let shape = job.shape;
+    let progress = job.numbers.progress;
+    match turn(accepted, t, job.numbers) {
+        Err(_) => Err(job),
+        Ok(Turned::Onward(numbers)) => Ok(Worked::Searching(Searching { shape, numbers })),
+        Ok(Turned::Found(node)) => {
             Ok(Worked::Found(Found {
-                variables,
-                moves,
-                capacity,
-                stored,
+                shape,
+                progress,
                 node,
-                cover,
             }))
         }
-        Turned::NoPlan => Ok(Worked::NoPlan(NoPlan {
-            capacity,
-            stored,
-            cover,
-        })),
-        Turned::OutOfSpace(p) => {
-            Ok(Worked::OutOfSpace(OutOfSpace {
-                capacity,
-                stored: p.stored,
-                cover: p.cover,
-            }))
-        }
+        Ok(Turned::NoPlan) => Ok(Worked::NoPlan(NoPlan { progress })),
+        Ok(Turned::OutOfSpace(progress)) => Ok(Worked::OutOfSpace(OutOfSpace { progress })),
     }
 }
 
@@ -86,25 +50,17 @@ fn work_on<K: Cost, S: Store, Q: Queue<K>>(
     ensures untouched { Untouched from t.old t.new result }
 {
     let mut job = from;
-    let mut done = 0u32;
-    while done < budget {
+    for done in 0..budget {
         match advance(job, accepted, t) {
-            Err(j) => return Work::Torn(j, done),
-            Ok(w) => match w {
-                Worked::Searching(j) => {
-                    job = j;
-                    done += 1;
-                }
-                Worked::Found(j) => return Work::Went(Worked::Found(j), done + 1),
-                Worked::NoPlan(j) => return Work::Went(Worked::NoPlan(j), done + 1),
-                Worked::OutOfSpace(j) => return Work::Went(Worked::OutOfSpace(j), done + 1),
-            },
+            Err(j) => return Err(Unworked::Torn(j, done)),
+            Ok(Worked::Searching(j)) => job = j,
+            Ok(w) => return Ok((w, done + 1)),
         }
     }
-    Work::Went(Worked::Searching(job), done)
+    Ok((Worked::Searching(job), budget))
 }
 
-// Steps on an accepted file, if it has as many variables and moves as that which the job was opened on.
+// Steps on an accepted file, if it has the shape of that which the job was opened on.
 fn work_suited<K: Cost, S: Store, Q: Queue<K>>(
     job: Searching,
     accepted: &Accepted<'_>,
@@ -114,8 +70,8 @@ fn work_suited<K: Cost, S: Store, Q: Queue<K>>(
     ensures works { WorksSuited K.Cost S.Store Q.Queue (held accepted.now.task) job budget t.old t.new result }
     ensures untouched { Untouched job t.old t.new result }
 {
-    if accepted.task.values.len() != job.variables || accepted.count() != job.moves {
-        return Work::Torn(job, 0);
+    if !job.shape.is_of(accepted) {
+        return Err(Unworked::Torn(job, 0));
     }
     work_on(job, accepted, t, budget)
 }
@@ -132,11 +88,11 @@ impl Searching {
         ensures untouched { Untouched self t.old t.new result }
     {
         if budget == 0 {
-            return Work::Idle(self);
+            return Err(Unworked::Idle(self));
         }
         match read(file) {
-            Err(_) => Work::Torn(self, 0),
-            Ok(task) => work_suited(self, &Accepted { task }, t, budget),
+            Err(_) => Err(Unworked::Torn(self, 0)),
+            Ok(accepted) => work_suited(self, &accepted, t, budget),
         }
     }
 }
