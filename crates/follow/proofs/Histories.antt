@@ -15,7 +15,7 @@ use Rattle.steps.specs.Holdings.{Held, Ample}
 use Rattle.search.specs.declared.jobs.Searching.{Searching}
 use Rattle.search.specs.declared.jobs.Worked.{Worked}
 use Rattle.search.specs.declared.jobs.Worked.TheVariants as worked
-use Rattle.search.specs.declared.jobs.Work.TheVariants as work
+use Rattle.search.specs.declared.jobs.Unworked.TheVariants as work
 use Rattle.search.specs.Files.{Suits}
 use Rattle.steps.specs.Begins.{capacity}
 use Rattle.search.specs.Opens.{Opened}
@@ -32,12 +32,12 @@ module _ {K S Q : Type 0} (C : cost.Ghosts K) (st : store.Ghosts S) (qu : queue.
   pub record Live (n : ℕ) (t : Tables K S Q) (j : Searching) : Type 0 where
     pub bodies : Bodies
     pub reads : reading file ≡ Ok bodies
-    pub variables : width bodies ≡ j.variables
-    pub moves : move_count bodies ≡ j.moves
-    pub capacity : j.capacity ≡ capacity (task_of bodies) (memory st qu s 0 None)
+    pub variables : width bodies ≡ j.shape.variables
+    pub moves : move_count bodies ≡ j.shape.moves
+    pub capacity : j.numbers.progress.capacity ≡ capacity (task_of bodies) (memory st qu s 0 None)
     pub ordered : qu.ordered t.queue
     pub run : Run C.arithmetic (regression (task_of bodies))
-    pub follows : Follows C (task_of bodies) j.capacity n (standing st qu t j) run
+    pub follows : Follows C (task_of bodies) j.numbers.progress.capacity n (standing st qu t j) run
 
   -- a job that has ended: its tables hold a run that ended in the same way
   pub record Over (cap n : ℕ) (o : Outcome) (m : Memory K) : Type 0 where
@@ -51,15 +51,15 @@ module _ {K S Q : Type 0} (C : cost.Ghosts K) (st : store.Ghosts S) (qu : queue.
 
   abbrev pub State : ℕ → Tables K S Q → Worked → Type 0
   State n t (worked.Searching j) = Live n t j
-  State n t (worked.Found f) = Over f.capacity n (found f.node) (memory st qu t f.stored f.cover) × ((d : Bodies) × Suits file f.variables f.moves d)
-  State n t (worked.NoPlan x) = Over x.capacity n no_plan (memory st qu t x.stored x.cover)
-  State n t (worked.OutOfSpace x) = Over x.capacity n out_of_space (memory st qu t x.stored x.cover)
+  State n t (worked.Found f) = Over f.progress.capacity n (found f.node) (memory st qu t f.progress.stored f.progress.cover) × ((d : Bodies) × Suits file f.shape.variables f.shape.moves d)
+  State n t (worked.NoPlan x) = Over x.progress.capacity n no_plan (memory st qu t x.progress.stored x.progress.cover)
+  State n t (worked.OutOfSpace x) = Over x.progress.capacity n out_of_space (memory st qu t x.progress.stored x.progress.cover)
 
   opened_live : (b : Bodies) (t : Tables K S Q) (j : Searching) → reading file ≡ Ok b → Opened C st qu b s t j → Live 0 t j
   opened_live b t j read o =
       let task = task_of b in
       let cap = capacity task (memory st qu s 0 None) in
-      let h = opens_hold C task (memory st qu s 0 None) (memory st qu t j.stored j.cover) (accepted file b read) o.new o.some o.began in
+      let h = opens_hold C task (memory st qu s 0 None) (memory st qu t j.numbers.progress.stored j.numbers.progress.cover) (accepted file b read) o.new o.some o.began in
       record {
         bodies = b;
         reads = read;
@@ -71,8 +71,8 @@ module _ {K S Q : Type 0} (C : cost.Ghosts K) (st : store.Ghosts S) (qu : queue.
         follows = record {
           after = opening (subst (λ z. 0 < z) (sym o.capacity) o.some);
           held = h.0;
-          ample = subst (λ z. Ample C task z (memory st qu t j.stored j.cover)) (sym o.capacity) h.1;
-          known = record { keeps = o.kept ∙ sym (ap length h.0.kept); waits = o.waiting ∙ sym (as_many C task (memory st qu t j.stored j.cover) _ h.0) };
+          ample = subst (λ z. Ample C task z (memory st qu t j.numbers.progress.stored j.numbers.progress.cover)) (sym o.capacity) h.1;
+          known = record { keeps = o.kept ∙ sym (ap length h.0.kept); waits = o.waiting ∙ sym (as_many C task (memory st qu t j.numbers.progress.stored j.numbers.progress.cover) _ h.0) };
         };
       }
 
@@ -80,10 +80,10 @@ module _ {K S Q : Type 0} (C : cost.Ghosts K) (st : store.Ghosts S) (qu : queue.
   again : (X : Bodies → Type 0) (b d : Bodies) → reading file ≡ Ok b → reading file ≡ Ok d → X d → X b
   again X b d p q x = subst X (read_one file d b q p) x
 
-  over : {n i : ℕ} {t : Tables K S Q} {j : Searching} (l : Live n t j) (cap : ℕ) (o : Outcome) (m : Memory K) → cap ≡ j.capacity → Ends C (task_of l.bodies) j.capacity (standing st qu t j) i o m → Over cap (n + i) o m
+  over : {n i : ℕ} {t : Tables K S Q} {j : Searching} (l : Live n t j) (cap : ℕ) (o : Outcome) (m : Memory K) → cap ≡ j.numbers.progress.capacity → Ends C (task_of l.bodies) j.numbers.progress.capacity (standing st qu t j) i o m → Over cap (n + i) o m
   over {n} {i} {t} {j} l cap o m e en =
       let task = task_of l.bodies in
-      let r = ends C task (accepted file l.bodies l.reads) j.capacity i o m (l.run, l.follows) en in
+      let r = ends C task (accepted file l.bodies l.reads) j.numbers.progress.capacity i o m (l.run, l.follows) en in
       record {
         bodies = l.bodies;
         reads = l.reads;
@@ -94,12 +94,12 @@ module _ {K S Q : Type 0} (C : cost.Ghosts K) (st : store.Ghosts S) (qu : queue.
         ample = subst (λ z. Ample C task z m) (sym e) r.3;
       }
 
-  went_state : (n b i : ℕ) (t u : Tables K S Q) (j : Searching) (w : Worked) (l : Live n t j) → WorksOn C st qu (task_of l.bodies) j b t u (work.Went w i) → State (n + i) u w
+  went_state : (n b i : ℕ) (t u : Tables K S Q) (j : Searching) (w : Worked) (l : Live n t j) → WorksOn C st qu (task_of l.bodies) j b t u (Ok (w, i)) → State (n + i) u w
   went_state n b i t u j (worked.Searching k) l h =
       let task = task_of l.bodies in
       let same = h.1 in
       let g = h.2 l.ordered in
-      let f = goes C task (accepted file l.bodies l.reads) j.capacity (l.run, l.follows) g.1 in
+      let f = goes C task (accepted file l.bodies l.reads) j.numbers.progress.capacity (l.run, l.follows) g.1 in
       record {
         bodies = l.bodies;
         reads = l.reads;
@@ -111,25 +111,25 @@ module _ {K S Q : Type 0} (C : cost.Ghosts K) (st : store.Ghosts S) (qu : queue.
         follows = subst (λ z. Follows C task z (n + i) (standing st qu u k) f.0) (sym same.capacity) f.1;
       }
   went_state n b i t u j (worked.Found f) l h = (
-    over l f.capacity (found f.node) (memory st qu u f.stored f.cover) h.1.capacity (h.2 l.ordered).1,
+    over l f.progress.capacity (found f.node) (memory st qu u f.progress.stored f.progress.cover) h.1.capacity (h.2 l.ordered).1,
     (l.bodies, record { reads = l.reads; variables = l.variables ∙ sym h.1.variables; moves = l.moves ∙ sym h.1.moves }),
   )
-  went_state n b i t u j (worked.NoPlan x) l h = over l x.capacity no_plan (memory st qu u x.stored x.cover) h.1 (h.2 l.ordered).1
-  went_state n b i t u j (worked.OutOfSpace x) l h = over l x.capacity out_of_space (memory st qu u x.stored x.cover) h.1 (h.2 l.ordered).1
+  went_state n b i t u j (worked.NoPlan x) l h = over l x.progress.capacity no_plan (memory st qu u x.progress.stored x.progress.cover) h.1 (h.2 l.ordered).1
+  went_state n b i t u j (worked.OutOfSpace x) l h = over l x.progress.capacity out_of_space (memory st qu u x.progress.stored x.progress.cover) h.1 (h.2 l.ordered).1
 
   -- the tables are not torn, so the working is not refused
-  not_torn : (n b i : ℕ) (t u : Tables K S Q) (j k : Searching) (l : Live n t j) → WorksOn C st qu (task_of l.bodies) j b t u (work.Torn k i) → ⊥
+  not_torn : (n b i : ℕ) (t u : Tables K S Q) (j k : Searching) (l : Live n t j) → WorksOn C st qu (task_of l.bodies) j b t u (Err (work.Torn k i)) → ⊥
   not_torn n b i t u j k l h =
       let task = task_of l.bodies in
       let acc = accepted file l.bodies l.reads in
       let g = h.2 l.ordered in
-      let f = goes C task acc j.capacity (l.run, l.follows) g.1 in
-      g.2 (intact C task acc j.capacity f.1)
+      let f = goes C task acc j.numbers.progress.capacity (l.run, l.follows) g.1 in
+      g.2 (intact C task acc j.numbers.progress.capacity f.1)
 
-  pub never_refused : (n b i : ℕ) (t u : Tables K S Q) (j k : Searching) → Live n t j → Works C st qu file j b t u (work.Torn k i) → ⊥
+  pub never_refused : (n b i : ℕ) (t u : Tables K S Q) (j k : Searching) → Live n t j → Works C st qu file j b t u (Err (work.Torn k i)) → ⊥
   never_refused n b i t u j k l (pos, inl w) = w.0 l.bodies (record { reads = l.reads; variables = l.variables; moves = l.moves })
   never_refused n b i t u j k l (pos, inr w) =
-      not_torn n b i t u j k l (again (λ d. WorksOn C st qu (task_of d) j b t u (work.Torn k i)) l.bodies w.0 l.reads w.1.reads w.2)
+      not_torn n b i t u j k l (again (λ d. WorksOn C st qu (task_of d) j b t u (Err (work.Torn k i))) l.bodies w.0 l.reads w.1.reads w.2)
 
   idle_live : (n : ℕ) (t u : Tables K S Q) (j k : Searching) → Live n t j → k ≡ j → u ≡ t → Live n u k
   idle_live n t u j k l e f = subst (λ z. Live n z k) (sym f) (subst (λ z. Live n t z) (sym e) l)
@@ -138,6 +138,6 @@ module _ {K S Q : Type 0} (C : cost.Ghosts K) (st : store.Ghosts S) (qu : queue.
   state (opened t j o) = opened_live o.0 t j o.1 o.2
   state (went n b i t u j w h k) =
       let l : Live n t j = state h in
-      went_state n b i t u j w l (again (λ d. WorksOn C st qu (task_of d) j b t u (work.Went w i)) l.bodies k.1.0 l.reads k.1.1.reads k.1.2)
+      went_state n b i t u j w l (again (λ d. WorksOn C st qu (task_of d) j b t u (Ok (w, i))) l.bodies k.1.0 l.reads k.1.1.reads k.1.2)
   state (idle n b t u j k h w) = idle_live n t u j k (state h) w.1 w.2
   state (torn n b i t u j k h w) = absurd (never_refused n b i t u j k (state h) w)

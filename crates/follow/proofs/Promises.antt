@@ -19,7 +19,7 @@ use Rattle.steps.specs.Holdings.{Held, Ample}
 use Rattle.search.specs.declared.jobs.Searching.{Searching}
 use Rattle.search.specs.declared.jobs.Worked.{Worked}
 use Rattle.search.specs.declared.jobs.Worked.TheVariants as worked
-use Rattle.search.specs.declared.jobs.Work.TheVariants as work
+use Rattle.search.specs.declared.jobs.Unworked.TheVariants as work
 use Rattle.search.specs.Files.{Suits}
 use Rattle.steps.specs.Begins.{capacity}
 use Rattle.search.specs.Works.{Works}
@@ -47,13 +47,13 @@ module _ {K : Type 0} (C : cost.Ghosts K) (file : List ℕ) (b : Bodies) (reads 
   finds : {cap n k : ℕ} {m : Memory K} → OverAt cap n (found k) m → Finds C b m.records k
   finds {cap} {n} {k} {m} o =
       let f = found_cheapest C.arithmetic (regression (task_of b)) law.lawful cap n k o.run o.ends in
-      let c : Chain (move_count b) m.records k f.moves = subst (λ z. Chain z m.records k f.moves) (move_count_lem b) (chain_of C (task_of b) m o.run o.held f.reads) in
+      let c : Chain (move_count b) m.records k f.shape.moves = subst (λ z. Chain z m.records k f.shape.moves) (move_count_lem b) (chain_of C (task_of b) m o.run o.held f.reads) in
       let d = o.held.nodes k f.node f.there in
       record {
-        moves = f.moves;
+        moves = f.shape.moves;
         chain = c;
         only = λ ms e. chain_unique e c refl;
-        cheapest = best_cheapest C.arithmetic (task_of b) law f.moves f.best;
+        cheapest = best_cheapest C.arithmetic (task_of b) law f.shape.moves f.best;
         noted = d.noted;
         there = d.there;
         cost = d.cost ∙ f.cost;
@@ -95,13 +95,13 @@ module _ {K S Q : Type 0} (C : cost.Ghosts K) (st : store.Ghosts S) (qu : queue.
   state_capacity n t (worked.NoPlan x) l = l.capacity ∙ ap (λ z. capacity (task_of z) (memory st qu s 0 None)) (read_one file l.bodies b l.reads reads)
   state_capacity n t (worked.OutOfSpace x) l = l.capacity ∙ ap (λ z. capacity (task_of z) (memory st qu s 0 None)) (read_one file l.bodies b l.reads reads)
 
-  still : (n : ℕ) (t : Tables K S Q) (j : Searching) → Live C st qu file s n t j → (n < 2 + most b) × (n < j.capacity + 1)
+  still : (n : ℕ) (t : Tables K S Q) (j : Searching) → Live C st qu file s n t j → (n < 2 + most b) × (n < j.numbers.progress.capacity + 1)
   still n t j l =
       let p = regression (task_of l.bodies) in
       let ok = (regression_lawful (task_of l.bodies) (accepted file l.bodies l.reads)).lawful in
       let e : uniform.most p ≡ most b = same_most l.bodies ∙ ap most (read_one file l.bodies b l.reads reads) in (
-        (let z = (few_nodes C.arithmetic p ok).steps j.capacity n l.run l.follows.after in omega (arith, e)),
-        (ends_by C.arithmetic p ok j.capacity).still n l.run l.follows.after,
+        (let z = (few_nodes C.arithmetic p ok).steps j.numbers.progress.capacity n l.run l.follows.after in omega (arith, e)),
+        (ends_by C.arithmetic p ok j.numbers.progress.capacity).still n l.run l.follows.after,
       )
 
   at_end : (n : ℕ) (t : Tables K S Q) (w : Worked) → State C st qu file s n t w → (n ≤ 2 + most b) × (n ≤ capacity_of w + 1)
@@ -115,16 +115,16 @@ module _ {K S Q : Type 0} (C : cost.Ghosts K) (st : store.Ghosts S) (qu : queue.
 
   defined : (n : ℕ) (t : Tables K S Q) (w : Worked) → State C st qu file s n t w → AsDefined C st qu file b n t w
   defined n t (worked.Searching j) l = live_at n t j l
-  defined n t (worked.Found f) l = let v = over_at l.0 in (v.run, v.ends, v.held, v.ample, subst (λ z. Suits file f.variables f.moves z) (read_one file l.1.0 b l.1.1.reads reads) l.1.1)
+  defined n t (worked.Found f) l = let v = over_at l.0 in (v.run, v.ends, v.held, v.ample, subst (λ z. Suits file f.shape.variables f.shape.moves z) (read_one file l.1.0 b l.1.1.reads reads) l.1.1)
   defined n t (worked.NoPlan x) l = let v = over_at l in (v.run, v.ends, v.held, v.ample)
   defined n t (worked.OutOfSpace x) l = let v = over_at l in (v.run, v.ends, v.held, v.ample)
 
-  surely : (t u : Tables K S Q) (n budget i : ℕ) (j k : Searching) → History C st qu file s n t (worked.Searching j) → j.capacity + 1 ≤ n + budget → Works C st qu file j budget t u (work.Went (worked.Searching k) i) → ⊥
+  surely : (t u : Tables K S Q) (n budget i : ℕ) (j k : Searching) → History C st qu file s n t (worked.Searching j) → j.numbers.progress.capacity + 1 ≤ n + budget → Works C st qu file j budget t u (Ok (worked.Searching k, i)) → ⊥
   surely t u n budget i j k h le w =
       let z = still (n + i) u k (state C st qu file s (went n budget i t u j (worked.Searching k) h w)) in
       let lt = z.1 in
       let ib : i ≡ budget = w.1.2.0 in
-      let same : k.capacity ≡ j.capacity = w.1.2.1.capacity in
+      let same : k.numbers.progress.capacity ≡ j.numbers.progress.capacity = w.1.2.1.capacity in
       omega arith
 
 module _ {K S Q : Type 0} (C : cost.Ghosts K) (st : store.Ghosts S) (qu : queue.Ghosts Q K) where

@@ -44,14 +44,14 @@ module _ {K : Type 0} (C : cost.Ghosts K) (file : List ℕ) (b : Bodies) (reads 
       let a = C.arithmetic in
       let p = regression (task_of b) in
       let f = found_cheapest a p (law C file b reads).lawful c n k v.run v.ends in
-      let mine : Chain (move_count b) x.records k f.moves = subst (λ z. Chain z x.records k f.moves) (move_count_lem b) (chain_of C (task_of b) x v.run v.held f.reads) in
-      let is : f.moves ≡ ms = chain_unique mine chain refl in
-      let read : Reads a p w.run.nodes k f.moves = subst (λ z. Reads a p z k f.moves) r.alike.nodes f.reads in
-      let theirs : Chain (move_count b) y.records k f.moves = subst (λ z. Chain z y.records k f.moves) (move_count_lem b) (chain_of C (task_of b) y w.run w.held read) in
+      let mine : Chain (move_count b) x.records k f.shape.moves = subst (λ z. Chain z x.records k f.shape.moves) (move_count_lem b) (chain_of C (task_of b) x v.run v.held f.reads) in
+      let is : f.shape.moves ≡ ms = chain_unique mine chain refl in
+      let read : Reads a p w.run.nodes k f.shape.moves = subst (λ z. Reads a p z k f.shape.moves) r.alike.nodes f.reads in
+      let theirs : Chain (move_count b) y.records k f.shape.moves = subst (λ z. Chain z y.records k f.shape.moves) (move_count_lem b) (chain_of C (task_of b) y w.run w.held read) in
       subst (λ z. Chain (move_count b) y.records z ms) (sym (found_inj i k r.how)) (subst (λ z. Chain (move_count b) y.records k z) is theirs)
 
 module _ {K S Q R P : Type 0} (C : cost.Ghosts K) (st : store.Ghosts S) (qu : queue.Ghosts Q K) (st' : store.Ghosts R) (qu' : queue.Ghosts P K) (file : List ℕ) (b : Bodies) (reads : reading file ≡ Ok b) where
-  same_found : (s t : Tables K S Q) (s' t' : Tables K R P) (n m : ℕ) (f : Found) (w : Worked) → State C st qu file s n t (worked.Found f) → State C st' qu' file s' m t' w → ended w ≡ true → f.capacity ≤ capacity_of w
+  same_found : (s t : Tables K S Q) (s' t' : Tables K R P) (n m : ℕ) (f : Found) (w : Worked) → State C st qu file s n t (worked.Found f) → State C st' qu' file s' m t' w → ended w ≡ true → f.progress.capacity ≤ capacity_of w
       → SameFound b t.records.now t'.records.now n m f w
   same_found s t s' t' n m f (worked.Searching j) h k e le = absurd (both_ways false refl e)
   same_found s t s' t' n m f (worked.Found g) h k e le =
@@ -73,7 +73,7 @@ module _ {K S Q R P : Type 0} (C : cost.Ghosts K) (st : store.Ghosts S) (qu : qu
       let r = both C file b reads le (over_at C st qu file b reads s h.0) (over_at C st' qu' file b reads s' k) (λ q. other (found f.node) out_of_space q (λ z. omega arith)) in
       other out_of_space (found f.node) r.how (λ z. omega arith)
 
-  same_none : (s t : Tables K S Q) (s' t' : Tables K R P) (n m : ℕ) (x : NoPlan) (w : Worked) → State C st qu file s n t (worked.NoPlan x) → State C st' qu' file s' m t' w → ended w ≡ true → x.capacity ≤ capacity_of w
+  same_none : (s t : Tables K S Q) (s' t' : Tables K R P) (n m : ℕ) (x : NoPlan) (w : Worked) → State C st qu file s n t (worked.NoPlan x) → State C st' qu' file s' m t' w → ended w ≡ true → x.progress.capacity ≤ capacity_of w
       → ((y : NoPlan) × (w ≡ worked.NoPlan y)) × (m ≡ n)
   same_none s t s' t' n m x (worked.Searching j) h k e le = absurd (both_ways false refl e)
   same_none s t s' t' n m x (worked.Found g) h k e le =

@@ -86,16 +86,16 @@ module _ {K S Q : Type 0} (C : cost.Ghosts K) (st : store.Ghosts S) (qu : queue.
 
   once : (n : ℕ) (t : Tables K S Q) (w : Worked) → AsDefined C st qu file b n t w → New (task_of b) (memory st qu t 0 None) → AtOnce b n w
   once n t (worked.Searching j) (r, after, held, ample) new =
-      let z = bare t j.stored j.cover r held new in
+      let z = bare t j.numbers.progress.stored j.numbers.progress.cover r held new in
       let k = z.0 in
       let w = z.1 in
-      elim (kept_or C.arithmetic (regression (task_of b)) j.capacity after) [
+      elim (kept_or C.arithmetic (regression (task_of b)) j.numbers.progress.capacity after) [
         | inl some ↦ absurd (omega arith)
         | inr is ↦ absurd (omega (arith, ap (λ q. length q.waiting) is.1))
       ]
   once n t (worked.Found f) (r, en, held, ample, suits) new =
-      let z = bare t f.stored f.cover r held new in
-      let g = at_first C.arithmetic (regression (task_of b)) f.capacity en z.0 z.1 in
+      let z = bare t f.progress.stored f.progress.cover r held new in
+      let g = at_first C.arithmetic (regression (task_of b)) f.progress.capacity en z.0 z.1 in
       record {
         job = f;
         is = refl;
@@ -104,11 +104,11 @@ module _ {K S Q : Type 0} (C : cost.Ghosts K) (st : store.Ghosts S) (qu : queue.
         easy = ap (λ q. covers q b.start) (sym g.1.row) ∙ g.1.meets;
       }
   once n t (worked.NoPlan x) (r, en, held, ample) new =
-      let z = bare t x.stored x.cover r held new in
-      other no_plan (found 0) (at_first C.arithmetic (regression (task_of b)) x.capacity en z.0 z.1).1.is (λ e. omega arith)
+      let z = bare t x.progress.stored x.progress.cover r held new in
+      other no_plan (found 0) (at_first C.arithmetic (regression (task_of b)) x.progress.capacity en z.0 z.1).1.is (λ e. omega arith)
   once n t (worked.OutOfSpace x) (r, en, held, ample) new =
-      let z = bare t x.stored x.cover r held new in
-      other out_of_space (found 0) (at_first C.arithmetic (regression (task_of b)) x.capacity en z.0 z.1).1.is (λ e. omega arith)
+      let z = bare t x.progress.stored x.progress.cover r held new in
+      other out_of_space (found 0) (at_first C.arithmetic (regression (task_of b)) x.progress.capacity en z.0 z.1).1.is (λ e. omega arith)
 
 module _ {K S Q : Type 0} (C : cost.Ghosts K) (st : store.Ghosts S) (qu : queue.Ghosts Q K) where
   pub others_use : OthersUse C st qu

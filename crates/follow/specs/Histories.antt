@@ -9,7 +9,7 @@ use Rattle.steps.specs.Memories.{At}
 use Rattle.search.specs.declared.jobs.Searching.{Searching}
 use Rattle.search.specs.declared.jobs.Worked.{Worked}
 use Rattle.search.specs.declared.jobs.Worked.TheVariants as worked
-use Rattle.search.specs.declared.jobs.Work.TheVariants as work
+use Rattle.search.specs.declared.jobs.Unworked.TheVariants as work
 use Rattle.search.specs.Opens.{Opens}
 use Rattle.search.specs.Works.{Works}
 
@@ -18,9 +18,9 @@ module _ {K S Q : Type 0} (C : cost.Ghosts K) (st : store.Ghosts S) (qu : queue.
   -- last call left them: the steps done in all, the tables, and the job. Refused workings are in it too
   pub data History (s : Tables K S Q) : ℕ → Tables K S Q → Worked → Type 0 where
     opened : (t : Tables K S Q) (j : Searching) → Opens C st qu file s t (Ok j) → History s 0 t (worked.Searching j)
-    went : (n b i : ℕ) (t u : Tables K S Q) (j : Searching) (w : Worked) → History s n t (worked.Searching j) → Works C st qu file j b t u (work.Went w i) → History s (n + i) u w
-    idle : (n b : ℕ) (t u : Tables K S Q) (j k : Searching) → History s n t (worked.Searching j) → Works C st qu file j b t u (work.Idle k) → History s n u (worked.Searching k)
-    torn : (n b i : ℕ) (t u : Tables K S Q) (j k : Searching) → History s n t (worked.Searching j) → Works C st qu file j b t u (work.Torn k i) → History s (n + i) u (worked.Searching k)
+    went : (n b i : ℕ) (t u : Tables K S Q) (j : Searching) (w : Worked) → History s n t (worked.Searching j) → Works C st qu file j b t u (Ok (w, i)) → History s (n + i) u w
+    idle : (n b : ℕ) (t u : Tables K S Q) (j k : Searching) → History s n t (worked.Searching j) → Works C st qu file j b t u (Err (work.Idle k)) → History s n u (worked.Searching k)
+    torn : (n b i : ℕ) (t u : Tables K S Q) (j k : Searching) → History s n t (worked.Searching j) → Works C st qu file j b t u (Err (work.Torn k i)) → History s (n + i) u (worked.Searching k)
 
 -- the job has ended
 abbrev pub ended : Worked → Bool
@@ -30,10 +30,10 @@ ended (worked.NoPlan x) = true
 ended (worked.OutOfSpace x) = true
 
 abbrev pub capacity_of : Worked → ℕ
-capacity_of (worked.Searching j) = j.capacity
-capacity_of (worked.Found f) = f.capacity
-capacity_of (worked.NoPlan x) = x.capacity
-capacity_of (worked.OutOfSpace x) = x.capacity
+capacity_of (worked.Searching j) = j.numbers.progress.capacity
+capacity_of (worked.Found f) = f.progress.capacity
+capacity_of (worked.NoPlan x) = x.progress.capacity
+capacity_of (worked.OutOfSpace x) = x.progress.capacity
 
 -- the moves noted from node n along the parents to node 0, whose own is left out; each is below the number of moves
 pub data Chain {K : Type 0} (moves : ℕ) (records : List (Record K)) : ℕ → List ℕ → Type 0 where

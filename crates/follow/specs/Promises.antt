@@ -19,7 +19,7 @@ use Rattle.search.specs.declared.jobs.NoPlan.{NoPlan}
 use Rattle.search.specs.declared.jobs.OutOfSpace.{OutOfSpace}
 use Rattle.search.specs.declared.jobs.Worked.{Worked}
 use Rattle.search.specs.declared.jobs.Worked.TheVariants as worked
-use Rattle.search.specs.declared.jobs.Work.TheVariants as work
+use Rattle.search.specs.declared.jobs.Unworked.TheVariants as work
 use Rattle.search.specs.Files.{Suits}
 use Rattle.steps.specs.Begins.{capacity, New}
 use Rattle.search.specs.Works.{Works}
@@ -42,15 +42,15 @@ pub record Finds {K : Type 0} (C : cost.Ghosts K) (b : Bodies) (records : List (
 module _ {K S Q : Type 0} (C : cost.Ghosts K) (st : store.Ghosts S) (qu : queue.Ghosts Q K) where
   -- a job's working is never refused torn
   abbrev pub NeverRefused : Type 0
-  NeverRefused = (file : List ℕ) (s t u : Tables K S Q) (n budget i : ℕ) (j k : Searching) → History C st qu file s n t (worked.Searching j) → Works C st qu file j budget t u (work.Torn k i) → ⊥
+  NeverRefused = (file : List ℕ) (s t u : Tables K S Q) (n budget i : ℕ) (j k : Searching) → History C st qu file s n t (worked.Searching j) → Works C st qu file j budget t u (Err (work.Torn k i)) → ⊥
 
   -- the run of the definitions that a job's tables hold, with space for as many nodes as its capacity says: it goes on after as
   -- many steps, or ended in that step in the same way. The file still has as many variables and moves as a found job notes
   abbrev pub AsDefined : List ℕ → Bodies → ℕ → Tables K S Q → Worked → Type 0
-  AsDefined file b n t (worked.Searching j) = (r : Run C.arithmetic (regression (task_of b))) × After C.arithmetic (regression (task_of b)) j.capacity n r × Held C (task_of b) (memory st qu t j.stored j.cover) r × Ample C (task_of b) j.capacity (memory st qu t j.stored j.cover)
-  AsDefined file b n t (worked.Found f) = (r : Run C.arithmetic (regression (task_of b))) × Ends C.arithmetic (regression (task_of b)) f.capacity n (found f.node) r × Held C (task_of b) (memory st qu t f.stored f.cover) r × Ample C (task_of b) f.capacity (memory st qu t f.stored f.cover) × Suits file f.variables f.moves b
-  AsDefined file b n t (worked.NoPlan x) = (r : Run C.arithmetic (regression (task_of b))) × Ends C.arithmetic (regression (task_of b)) x.capacity n no_plan r × Held C (task_of b) (memory st qu t x.stored x.cover) r × Ample C (task_of b) x.capacity (memory st qu t x.stored x.cover)
-  AsDefined file b n t (worked.OutOfSpace x) = (r : Run C.arithmetic (regression (task_of b))) × Ends C.arithmetic (regression (task_of b)) x.capacity n out_of_space r × Held C (task_of b) (memory st qu t x.stored x.cover) r × Ample C (task_of b) x.capacity (memory st qu t x.stored x.cover)
+  AsDefined file b n t (worked.Searching j) = (r : Run C.arithmetic (regression (task_of b))) × After C.arithmetic (regression (task_of b)) j.numbers.progress.capacity n r × Held C (task_of b) (memory st qu t j.numbers.progress.stored j.numbers.progress.cover) r × Ample C (task_of b) j.numbers.progress.capacity (memory st qu t j.numbers.progress.stored j.numbers.progress.cover)
+  AsDefined file b n t (worked.Found f) = (r : Run C.arithmetic (regression (task_of b))) × Ends C.arithmetic (regression (task_of b)) f.progress.capacity n (found f.node) r × Held C (task_of b) (memory st qu t f.progress.stored f.progress.cover) r × Ample C (task_of b) f.progress.capacity (memory st qu t f.progress.stored f.progress.cover) × Suits file f.shape.variables f.shape.moves b
+  AsDefined file b n t (worked.NoPlan x) = (r : Run C.arithmetic (regression (task_of b))) × Ends C.arithmetic (regression (task_of b)) x.progress.capacity n no_plan r × Held C (task_of b) (memory st qu t x.progress.stored x.progress.cover) r × Ample C (task_of b) x.progress.capacity (memory st qu t x.progress.stored x.progress.cover)
+  AsDefined file b n t (worked.OutOfSpace x) = (r : Run C.arithmetic (regression (task_of b))) × Ends C.arithmetic (regression (task_of b)) x.progress.capacity n out_of_space r × Held C (task_of b) (memory st qu t x.progress.stored x.progress.cover) r × Ample C (task_of b) x.progress.capacity (memory st qu t x.progress.stored x.progress.cover)
 
   -- a job's steps and its ending are those of the definitions
   abbrev pub StepsAsDefined : Type 0
@@ -66,16 +66,16 @@ module _ {K S Q : Type 0} (C : cost.Ghosts K) (st : store.Ghosts S) (qu : queue.
 
   -- with a capacity of at least 1 + P × M a job is never out of space
   abbrev pub SpaceSuffices : Type 0
-  SpaceSuffices = (file : List ℕ) (b : Bodies) (s t : Tables K S Q) (n : ℕ) (x : OutOfSpace) → reading file ≡ Ok b → 1 + most b ≤ x.capacity → History C st qu file s n t (worked.OutOfSpace x) → ⊥
+  SpaceSuffices = (file : List ℕ) (b : Bodies) (s t : Tables K S Q) (n : ℕ) (x : OutOfSpace) → reading file ≡ Ok b → 1 + most b ≤ x.progress.capacity → History C st qu file s n t (worked.OutOfSpace x) → ⊥
 
   -- a job keeps the capacity that its tables had as it was opened, and ends by step 2 + P × M and by the step after its capacity
   pub record EndsBy (file : List ℕ) (b : Bodies) : Type 0 where
     pub capacity : (s t : Tables K S Q) (n : ℕ) (w : Worked) → History C st qu file s n t w → capacity_of w ≡ capacity (task_of b) (memory st qu s 0 None)
-    pub still : (s t : Tables K S Q) (n : ℕ) (j : Searching) → History C st qu file s n t (worked.Searching j) → (n < 2 + most b) × (n < j.capacity + 1)
+    pub still : (s t : Tables K S Q) (n : ℕ) (j : Searching) → History C st qu file s n t (worked.Searching j) → (n < 2 + most b) × (n < j.numbers.progress.capacity + 1)
     pub at_end : (s t : Tables K S Q) (n : ℕ) (w : Worked) → History C st qu file s n t w → (n ≤ 2 + most b) × (n ≤ capacity_of w + 1)
     -- so a working with a budget of what is left of these steps ends it
-    pub surely : (s t u : Tables K S Q) (n budget i : ℕ) (j k : Searching) → History C st qu file s n t (worked.Searching j) → j.capacity + 1 ≤ n + budget
-        → Works C st qu file j budget t u (work.Went (worked.Searching k) i) → ⊥
+    pub surely : (s t u : Tables K S Q) (n budget i : ℕ) (j k : Searching) → History C st qu file s n t (worked.Searching j) → j.numbers.progress.capacity + 1 ≤ n + budget
+        → Works C st qu file j budget t u (Ok (worked.Searching k, i)) → ⊥
 
   abbrev pub JobsEnd : Type 0
   JobsEnd = (file : List ℕ) (b : Bodies) → reading file ≡ Ok b → EndsBy file b
@@ -99,7 +99,7 @@ pub record SameFound {K : Type 0} (b : Bodies) (records others : List (Record K)
   pub is : w ≡ worked.Found job
   pub steps : m ≡ n
   pub node : job.node ≡ f.node
-  pub stored : job.stored ≡ f.stored
+  pub stored : job.numbers.progress.stored ≡ f.progress.stored
   pub moves : (ms : List ℕ) → Chain (move_count b) records f.node ms → Chain (move_count b) others job.node ms
 
 module _ {K S Q R P : Type 0} (C : cost.Ghosts K) (st : store.Ghosts S) (qu : queue.Ghosts Q K) (st' : store.Ghosts R) (qu' : queue.Ghosts P K) where
@@ -107,9 +107,9 @@ module _ {K S Q R P : Type 0} (C : cost.Ghosts K) (st : store.Ghosts S) (qu : qu
   -- it has ended, found the same in as many steps; and where the one told that there is no plan, so did the other
   pub record Repeats (file : List ℕ) (b : Bodies) : Type 0 where
     pub found : (s t : Tables K S Q) (s' t' : Tables K R P) (n m : ℕ) (f : Found) (w : Worked) → History C st qu file s n t (worked.Found f) → History C st' qu' file s' m t' w
-        → ended w ≡ true → f.capacity ≤ capacity_of w → SameFound b t.records.now t'.records.now n m f w
+        → ended w ≡ true → f.progress.capacity ≤ capacity_of w → SameFound b t.records.now t'.records.now n m f w
     pub none : (s t : Tables K S Q) (s' t' : Tables K R P) (n m : ℕ) (x : NoPlan) (w : Worked) → History C st qu file s n t (worked.NoPlan x) → History C st' qu' file s' m t' w
-        → ended w ≡ true → x.capacity ≤ capacity_of w → ((y : NoPlan) × (w ≡ worked.NoPlan y)) × (m ≡ n)
+        → ended w ≡ true → x.progress.capacity ≤ capacity_of w → ((y : NoPlan) × (w ≡ worked.NoPlan y)) × (m ≡ n)
 
   abbrev pub Repeatable : Type 0
   Repeatable = (file : List ℕ) (b : Bodies) → reading file ≡ Ok b → Repeats file b

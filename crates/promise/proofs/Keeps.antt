@@ -13,7 +13,7 @@ use Rattle.search.specs.declared.jobs.Searching.{Searching}
 use Rattle.search.specs.declared.jobs.Found.{Found}
 use Rattle.search.specs.declared.jobs.Worked.{Worked}
 use Rattle.search.specs.declared.jobs.Worked.TheVariants as worked
-use Rattle.search.specs.declared.jobs.Work.TheVariants as work
+use Rattle.search.specs.declared.jobs.Unworked.TheVariants as work
 use Rattle.search.specs.Files.{Suits}
 use Rattle.search.specs.Works.{Works}
 use Rattle.search.specs.Reads.{Legible, PlanRead, ReadsPlan, CostRead}
@@ -35,14 +35,14 @@ module _ {K S Q : Type 0} (C : cost.Ghosts K) (st : store.Ghosts S) (qu : queue.
     pub finds : Finds C b l.tables.records.now f.node
     finds = jobs_cheapest C st qu file b l.begins l.tables n f reads l.history
 
-    suits : Suits file f.variables f.moves b
+    suits : Suits file f.shape.variables f.shape.moves b
     suits = (jobs_defined C st qu file b l.begins l.tables n (worked.Found f) reads l.history).4
 
     pub legible : Legible file f t finds.moves
     legible = record {
       bodies = b;
       suits = suits;
-      bytes = subst (λ z. f.capacity * z ≤ length t.rows.now) suits.variables l.ample.bytes;
+      bytes = subst (λ z. f.progress.capacity * z ≤ length t.rows.now) suits.variables l.ample.bytes;
       records = l.ample.records;
       chain = subst (λ z. Chain t.records.now z f.node finds.moves) suits.moves (l.there f (move_count b) finds.moves refl (noted_chain finds.chain));
     }
@@ -76,13 +76,13 @@ module _ {K S Q : Type 0} (C : cost.Ghosts K) (st : store.Ghosts S) (qu : queue.
   live_history : (t : Tables K S Q) (n : ℕ) (j : Searching) (l : Life C st qu file b reads t (job n (worked.Searching j))) → History C st qu file l.begins n t (worked.Searching j)
   live_history t n j l = subst (λ z. History C st qu file l.begins n z (worked.Searching j)) (l.live j refl) l.history
 
-  surely_ends : (s t u : Tables K S Q) (n budget i : ℕ) (j k : Searching) → History C st qu file s n t (worked.Searching j) → Works C st qu file j budget t u (work.Went (worked.Searching k) i) → (n + budget < 2 + most b) × (n + budget < j.capacity + 1)
+  surely_ends : (s t u : Tables K S Q) (n budget i : ℕ) (j k : Searching) → History C st qu file s n t (worked.Searching j) → Works C st qu file j budget t u (Ok (worked.Searching k, i)) → (n + budget < 2 + most b) × (n + budget < j.numbers.progress.capacity + 1)
   surely_ends s t u n budget i j k h w =
       let z = (jobs_end C st qu file b reads).still s u (n + i) k (went n budget i t u j (worked.Searching k) h w) in
       let first = z.0 in
       let second = z.1 in
       let ib : i ≡ budget = w.1.2.0 in
-      let same : k.capacity ≡ j.capacity = w.1.2.1.capacity in
+      let same : k.numbers.progress.capacity ≡ j.numbers.progress.capacity = w.1.2.1.capacity in
       (omega arith, omega arith)
 
   kept : (t : Tables K S Q) (js : List Job) → Calls C st qu file t js → Kept C st qu file b t js

@@ -22,8 +22,8 @@ use Rattle.search.specs.declared.jobs.Searching.{Searching}
 use Rattle.search.specs.declared.jobs.Found.{Found}
 use Rattle.search.specs.declared.jobs.Worked.{Worked}
 use Rattle.search.specs.declared.jobs.Worked.TheVariants as worked
-use Rattle.search.specs.declared.jobs.Work.{Work}
-use Rattle.search.specs.declared.jobs.Work.TheVariants as work
+use Rattle.search.specs.Works.{Work}
+use Rattle.search.specs.declared.jobs.Unworked.TheVariants as work
 use Rattle.search.specs.Opens.{Opens}
 use Rattle.search.specs.Works.{Works}
 use Rattle.follow.specs.Histories.{History, opened, went, idle, torn, capacity_of}
@@ -82,7 +82,7 @@ module _ {K S Q : Type 0} (C : cost.Ghosts K) (st : store.Ghosts S) (qu : queue.
     pub is : g.state ≡ worked.Found found
     pub node : found.node ≡ 0
     pub once : g.steps ≡ 1
-    pub small : found.capacity ≤ cap
+    pub small : found.progress.capacity ≤ cap
     pub history : History C st qu file begins g.steps tables g.state
 
   -- the jobs of a list that opened some
@@ -106,10 +106,10 @@ module _ {K S Q : Type 0} (C : cost.Ghosts K) (st : store.Ghosts S) (qu : queue.
 
   -- the tables of a job have space for as many nodes as its capacity says
   pub job_ample : (s t : Tables K S Q) (n : ℕ) (w : Worked) → History C st qu file s n t w → Ample C (task_of b) (capacity_of w) (memory st qu t 0 None)
-  job_ample s t n (worked.Searching j) h = ample_plain t j.capacity j.stored j.cover (jobs_defined C st qu file b s t n (worked.Searching j) reads h).3
-  job_ample s t n (worked.Found f) h = ample_plain t f.capacity f.stored f.cover (jobs_defined C st qu file b s t n (worked.Found f) reads h).3
-  job_ample s t n (worked.NoPlan x) h = ample_plain t x.capacity x.stored x.cover (jobs_defined C st qu file b s t n (worked.NoPlan x) reads h).3
-  job_ample s t n (worked.OutOfSpace x) h = ample_plain t x.capacity x.stored x.cover (jobs_defined C st qu file b s t n (worked.OutOfSpace x) reads h).3
+  job_ample s t n (worked.Searching j) h = ample_plain t j.numbers.progress.capacity j.numbers.progress.stored j.numbers.progress.cover (jobs_defined C st qu file b s t n (worked.Searching j) reads h).3
+  job_ample s t n (worked.Found f) h = ample_plain t f.progress.capacity f.progress.stored f.progress.cover (jobs_defined C st qu file b s t n (worked.Found f) reads h).3
+  job_ample s t n (worked.NoPlan x) h = ample_plain t x.progress.capacity x.progress.stored x.progress.cover (jobs_defined C st qu file b s t n (worked.NoPlan x) reads h).3
+  job_ample s t n (worked.OutOfSpace x) h = ample_plain t x.progress.capacity x.progress.stored x.progress.cover (jobs_defined C st qu file b s t n (worked.OutOfSpace x) reads h).3
 
   -- the record of node 0 notes the cost of nothing
   abbrev pub Nothing : Tables K S Q → Type 0
@@ -119,20 +119,20 @@ module _ {K S Q : Type 0} (C : cost.Ghosts K) (st : store.Ghosts S) (qu : queue.
   held_nothing m r h e = let d = h.nodes 0 (root C.arithmetic (regression (task_of b))) e in (d.noted, d.there, d.cost)
 
   pub job_nothing : (s t : Tables K S Q) (n : ℕ) (w : Worked) → History C st qu file s n t w → Nothing t
-  job_nothing s t n (worked.Searching j) h = let d = jobs_defined C st qu file b s t n (worked.Searching j) reads h in held_nothing _ d.0 d.2 (after_rooted C.arithmetic (regression (task_of b)) j.capacity d.1)
-  job_nothing s t n (worked.Found f) h = let d = jobs_defined C st qu file b s t n (worked.Found f) reads h in held_nothing _ d.0 d.2 (ends_rooted C.arithmetic (regression (task_of b)) f.capacity d.1)
-  job_nothing s t n (worked.NoPlan x) h = let d = jobs_defined C st qu file b s t n (worked.NoPlan x) reads h in held_nothing _ d.0 d.2 (ends_rooted C.arithmetic (regression (task_of b)) x.capacity d.1)
-  job_nothing s t n (worked.OutOfSpace x) h = let d = jobs_defined C st qu file b s t n (worked.OutOfSpace x) reads h in held_nothing _ d.0 d.2 (ends_rooted C.arithmetic (regression (task_of b)) x.capacity d.1)
+  job_nothing s t n (worked.Searching j) h = let d = jobs_defined C st qu file b s t n (worked.Searching j) reads h in held_nothing _ d.0 d.2 (after_rooted C.arithmetic (regression (task_of b)) j.numbers.progress.capacity d.1)
+  job_nothing s t n (worked.Found f) h = let d = jobs_defined C st qu file b s t n (worked.Found f) reads h in held_nothing _ d.0 d.2 (ends_rooted C.arithmetic (regression (task_of b)) f.progress.capacity d.1)
+  job_nothing s t n (worked.NoPlan x) h = let d = jobs_defined C st qu file b s t n (worked.NoPlan x) reads h in held_nothing _ d.0 d.2 (ends_rooted C.arithmetic (regression (task_of b)) x.progress.capacity d.1)
+  job_nothing s t n (worked.OutOfSpace x) h = let d = jobs_defined C st qu file b s t n (worked.OutOfSpace x) reads h in held_nothing _ d.0 d.2 (ends_rooted C.arithmetic (regression (task_of b)) x.progress.capacity d.1)
 
   -- another job is opened only where the last one found node 0 at once
-  now_past : (s t u : Tables K S Q) (g : Job) (j : Searching) → History C st qu file s g.steps t g.state → Opens C st qu file t u (Ok j) → (capacity_of g.state ≤ j.capacity) × Past j.capacity g
+  now_past : (s t u : Tables K S Q) (g : Job) (j : Searching) → History C st qu file s g.steps t g.state → Opens C st qu file t u (Ok j) → (capacity_of g.state ≤ j.numbers.progress.capacity) × Past j.numbers.progress.capacity g
   now_past s t u g j h o =
       let d = o.0 in
       let e = read_one file d b o.1 reads in
       let once : AtOnce b g.steps g.state = others_use C st qu file b s t g.steps g.state reads h (subst (λ z. New (task_of z) (memory st qu t 0 None)) e o.2.new) in
       let le : capacity_of g.state ≤ capacity (task_of b) (memory st qu t 0 None) = ample_within C (task_of b) (capacity_of g.state) (memory st qu t 0 None) (accepted file b reads) (job_ample s t g.steps g.state h) in
-      let is : j.capacity ≡ capacity (task_of b) (memory st qu t 0 None) = o.2.capacity ∙ ap (λ z. capacity (task_of z) (memory st qu t 0 None)) e in
-      let small : capacity_of g.state ≤ j.capacity = omega arith in (
+      let is : j.numbers.progress.capacity ≡ capacity (task_of b) (memory st qu t 0 None) = o.2.capacity ∙ ap (λ z. capacity (task_of z) (memory st qu t 0 None)) e in
+      let small : capacity_of g.state ≤ j.numbers.progress.capacity = omega arith in (
         small,
         record {
           begins = s;
@@ -141,19 +141,19 @@ module _ {K S Q : Type 0} (C : cost.Ghosts K) (st : store.Ghosts S) (qu : queue.
           is = once.is;
           node = once.node;
           once = once.steps;
-          small = (let q : capacity_of g.state ≡ once.job.capacity = ap capacity_of once.is in omega arith);
+          small = (let q : capacity_of g.state ≡ once.job.numbers.progress.capacity = ap capacity_of once.is in omega arith);
           history = h;
         },
       )
 
   -- so every job before did
-  pasts : (s t : Tables K S Q) (js : List Job) (j : Searching) → Lives s js → Opens C st qu file s t (Ok j) → (g : Job) → In g js → Past j.capacity g
+  pasts : (s t : Tables K S Q) (js : List Job) (j : Searching) → Lives s js → Opens C st qu file s t (Ok j) → (g : Job) → In g js → Past j.numbers.progress.capacity g
   pasts s t js j (inl e) o g i = absurd (subst (λ z. In g z) e i)
   pasts s t js j (inr c) o g i =
       let n = now_past c.begins s t c.last j c.history o in
       elim (in_push g c.last c.front (subst (λ z. In g z) c.is i)) [
-        | inl e ↦ subst (λ z. Past j.capacity z) (sym e) n.1
-        | inr k ↦ wider (capacity_of c.last.state) j.capacity g n.0 (c.past g k)
+        | inl e ↦ subst (λ z. Past j.numbers.progress.capacity z) (sym e) n.1
+        | inr k ↦ wider (capacity_of c.last.state) j.numbers.progress.capacity g n.0 (c.past g k)
       ]
 
   open_lives : (s t : Tables K S Q) (js : List Job) (j : Searching) → Lives s js → Opens C st qu file s t (Ok j) → Current t (js ++ job 0 (worked.Searching j) ∷ [])
@@ -164,9 +164,9 @@ module _ {K S Q : Type 0} (C : cost.Ghosts K) (st : store.Ghosts S) (qu : queue.
   keeps_capacity s t u n m v w h k = let e = jobs_end C st qu file b reads in e.capacity s t n v h ∙ sym (e.capacity s u m w k)
 
   worked_on : (s t u : Tables K S Q) (n budget : ℕ) (j : Searching) (w : Work) → History C st qu file s n t (worked.Searching j) → Works C st qu file j budget t u w → History C st qu file s (since n w).steps u (since n w).state
-  worked_on s t u n budget j (work.Went w i) h k = went n budget i t u j w h k
-  worked_on s t u n budget j (work.Idle i) h k = idle n budget t u j i h k
-  worked_on s t u n budget j (work.Torn i m) h k = torn n budget m t u j i h k
+  worked_on s t u n budget j (Ok (w, i)) h k = went n budget i t u j w h k
+  worked_on s t u n budget j (Err (work.Idle i)) h k = idle n budget t u j i h k
+  worked_on s t u n budget j (Err (work.Torn i m)) h k = torn n budget m t u j i h k
 
   no_past : {X : Type 0} (cap n : ℕ) (j : Searching) → Past cap (job n (worked.Searching j)) → X
   no_past cap n j p = let e : worked.Searching j ≡ worked.Found p.found = p.is in absurd (let z : ◌≡◌ {A = ℕ} 0 1 = cc in omega arith)
@@ -246,7 +246,7 @@ module _ {K S Q : Type 0} (C : cost.Ghosts K) (st : store.Ghosts S) (qu : queue.
   }
 
   -- where another job can be opened, every job before found node 0 at once
-  pub reopened : {t : Tables K S Q} {js : List Job} → Calls C st qu file t js → (g : Job) (u : Tables K S Q) (j : Searching) → In g js → Opens C st qu file t u (Ok j) → Past j.capacity g
+  pub reopened : {t : Tables K S Q} {js : List Job} → Calls C st qu file t js → (g : Job) (u : Tables K S Q) (j : Searching) → In g js → Opens C st qu file t u (Ok j) → Past j.numbers.progress.capacity g
   reopened {t} {js} cs g u j i o = pasts t u js j (lives cs) o g i
 
   pub life : {t : Tables K S Q} {js : List Job} → Calls C st qu file t js → (g : Job) → In g js → Life t g

@@ -17,7 +17,7 @@ use Rattle.promise.proofs.Keeps.{front_read, finds, plan_is}
 use Rattle.follow.specs.Histories.{ended, capacity_of, Chain}
 
 module _ {K S Q R P : Type 0} (C : cost.Ghosts K) (st : store.Ghosts S) (qu : queue.Ghosts Q K) (st' : store.Ghosts R) (qu' : queue.Ghosts P K) (file : List ℕ) (b : Bodies) (reads : reading file ≡ Ok b) where
-  again_found : (t : Tables K S Q) (u : Tables K R P) (n m : ℕ) (f g : Found) → Life C st qu file b reads t (job n (worked.Found f)) → Life C st' qu' file b reads u (job m (worked.Found g)) → f.capacity ≤ g.capacity → Again file t u n m f (worked.Found g)
+  again_found : (t : Tables K S Q) (u : Tables K R P) (n m : ℕ) (f g : Found) → Life C st qu file b reads t (job n (worked.Found f)) → Life C st' qu' file b reads u (job m (worked.Found g)) → f.progress.capacity ≤ g.capacity → Again file t u n m f (worked.Found g)
   again_found t u n m f g l k le =
       let same = (repeatable C st qu st' qu' file b reads).found l.begins l.tables k.begins k.tables n m f (worked.Found g) l.history k.history refl le in
       let is : worked.Found g ≡ worked.Found same.job = same.is in
@@ -38,7 +38,7 @@ module _ {K S Q R P : Type 0} (C : cost.Ghosts K) (st : store.Ghosts S) (qu : qu
             ∙ sym (front_read r.plan out after count r.counted r.written);
       }
 
-  again : (t : Tables K S Q) (u : Tables K R P) (n m : ℕ) (f : Found) (w : Worked) → Life C st qu file b reads t (job n (worked.Found f)) → Life C st' qu' file b reads u (job m w) → ended w ≡ true → f.capacity ≤ capacity_of w → Again file t u n m f w
+  again : (t : Tables K S Q) (u : Tables K R P) (n m : ℕ) (f : Found) (w : Worked) → Life C st qu file b reads t (job n (worked.Found f)) → Life C st' qu' file b reads u (job m w) → ended w ≡ true → f.progress.capacity ≤ capacity_of w → Again file t u n m f w
   again t u n m f (worked.Searching j) l k e le = absurd (both_ways false refl e)
   again t u n m f (worked.Found g) l k e le = again_found t u n m f g l k le
   again t u n m f (worked.NoPlan x) l k e le = other ((repeatable C st qu st' qu' file b reads).found l.begins l.tables k.begins k.tables n m f (worked.NoPlan x) l.history k.history e le).is

@@ -10,8 +10,8 @@ use Rattle.search.specs.declared.jobs.Searching.{Searching}
 use Rattle.search.specs.declared.jobs.Found.{Found}
 use Rattle.search.specs.declared.jobs.Worked.{Worked}
 use Rattle.search.specs.declared.jobs.Worked.TheVariants as worked
-use Rattle.search.specs.declared.jobs.Work.{Work}
-use Rattle.search.specs.declared.jobs.Work.TheVariants as work
+use Rattle.search.specs.Works.{Work}
+use Rattle.search.specs.declared.jobs.Unworked.TheVariants as work
 use Rattle.search.specs.Opens.{Opens}
 use Rattle.search.specs.Works.{Works}
 use Rattle.search.specs.Reads.{ReadsPlan, ReadsCost}
@@ -26,9 +26,9 @@ job n w = record { steps = n; state = w }
 
 -- the job after a working that answered so, where so many steps were done before
 abbrev pub since : ℕ → Work → Job
-since n (work.Went w i) = job (n + i) w
-since n (work.Idle j) = job n (worked.Searching j)
-since n (work.Torn j i) = job (n + i) (worked.Searching j)
+since n (Ok (w, i)) = job (n + i) w
+since n (Err (work.Idle j)) = job n (worked.Searching j)
+since n (Err (work.Torn j i)) = job (n + i) (worked.Searching j)
 
 module _ {K S Q : Type 0} (C : cost.Ghosts K) (st : store.Ghosts S) (qu : queue.Ghosts Q K) (file : List ℕ) where
   -- Calls on the same tables, and the jobs that they opened, in that order. The tables were new at first, with nothing kept and

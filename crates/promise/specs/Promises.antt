@@ -18,7 +18,7 @@ use Rattle.search.specs.declared.jobs.NoPlan.{NoPlan}
 use Rattle.search.specs.declared.jobs.OutOfSpace.{OutOfSpace}
 use Rattle.search.specs.declared.jobs.Worked.{Worked}
 use Rattle.search.specs.declared.jobs.Worked.TheVariants as worked
-use Rattle.search.specs.declared.jobs.Work.TheVariants as work
+use Rattle.search.specs.declared.jobs.Unworked.TheVariants as work
 use Rattle.search.specs.Readings.{cover_of, stored_of}
 use Rattle.search.specs.Opens.{Opens}
 use Rattle.search.specs.Works.{Works}
@@ -36,16 +36,16 @@ module _ {K : Type 0} (C : cost.Ghosts K) (b : Bodies) where
   -- the job's steps and its ending are those of the definitions: a run of its capacity goes on after as many steps, or ended in
   -- that step in the same way
   abbrev pub Defined : ℕ → Worked → Type 0
-  Defined n (worked.Searching j) = (r : Run C.arithmetic (regression (task_of b))) × After C.arithmetic (regression (task_of b)) j.capacity n r × Told r (worked.Searching j)
-  Defined n (worked.Found f) = (r : Run C.arithmetic (regression (task_of b))) × Ends C.arithmetic (regression (task_of b)) f.capacity n (found f.node) r × Told r (worked.Found f)
-  Defined n (worked.NoPlan x) = (r : Run C.arithmetic (regression (task_of b))) × Ends C.arithmetic (regression (task_of b)) x.capacity n no_plan r × Told r (worked.NoPlan x)
-  Defined n (worked.OutOfSpace x) = (r : Run C.arithmetic (regression (task_of b))) × Ends C.arithmetic (regression (task_of b)) x.capacity n out_of_space r × Told r (worked.OutOfSpace x)
+  Defined n (worked.Searching j) = (r : Run C.arithmetic (regression (task_of b))) × After C.arithmetic (regression (task_of b)) j.numbers.progress.capacity n r × Told r (worked.Searching j)
+  Defined n (worked.Found f) = (r : Run C.arithmetic (regression (task_of b))) × Ends C.arithmetic (regression (task_of b)) f.progress.capacity n (found f.node) r × Told r (worked.Found f)
+  Defined n (worked.NoPlan x) = (r : Run C.arithmetic (regression (task_of b))) × Ends C.arithmetic (regression (task_of b)) x.progress.capacity n no_plan r × Told r (worked.NoPlan x)
+  Defined n (worked.OutOfSpace x) = (r : Run C.arithmetic (regression (task_of b))) × Ends C.arithmetic (regression (task_of b)) x.progress.capacity n out_of_space r × Told r (worked.OutOfSpace x)
 
 module _ {K S Q : Type 0} (C : cost.Ghosts K) (st : store.Ghosts S) (qu : queue.Ghosts Q K) (file : List ℕ) (b : Bodies) where
   -- what holds of the jobs of a call list that left these tables, and of whatever call comes next
   pub record Kept (t : Tables K S Q) (js : List Job) : Type 0 where
     -- never torn: no working and no reading is refused so
-    pub works : (n budget i : ℕ) (j k : Searching) (u : Tables K S Q) → In (job n (worked.Searching j)) js → Works C st qu file j budget t u (work.Torn k i) → ⊥
+    pub works : (n budget i : ℕ) (j k : Searching) (u : Tables K S Q) → In (job n (worked.Searching j)) js → Works C st qu file j budget t u (Err (work.Torn k i)) → ⊥
     pub plan_reads : (n : ℕ) (f : Found) (out after : List ℕ) → In (job n (worked.Found f)) js → ReadsPlan file f t out (Err Torn) after → ⊥
     pub cost_reads : (n : ℕ) (f : Found) (e : Refusal) → In (job n (worked.Found f)) js → ReadsCost file f t (Err e) → ⊥
     -- as defined: each job's steps and its ending
@@ -58,13 +58,13 @@ module _ {K S Q : Type 0} (C : cost.Ghosts K) (st : store.Ghosts S) (qu : queue.
     -- complete: "no plan" is told only if there is none
     pub none : (n : ℕ) (x : NoPlan) (ms : List ℕ) → In (job n (worked.NoPlan x)) js → Plan (task_of b) ms → ⊥
     -- a job of a capacity of at least 1 + P × M is never out of space
-    pub space : (n : ℕ) (x : OutOfSpace) → In (job n (worked.OutOfSpace x)) js → 1 + most b ≤ x.capacity → ⊥
+    pub space : (n : ℕ) (x : OutOfSpace) → In (job n (worked.OutOfSpace x)) js → 1 + most b ≤ x.progress.capacity → ⊥
     -- a job ends by step 2 + P × M and by the step after its capacity: while it goes on it has done fewer, and a working with a
     -- budget of what is left of either ends it
     pub ends : (n : ℕ) (w : Worked) → In (job n w) js → (n ≤ 2 + most b) × (n ≤ capacity_of w + 1)
-    pub goes : (n : ℕ) (j : Searching) → In (job n (worked.Searching j)) js → (n < 2 + most b) × (n < j.capacity + 1)
-    pub surely : (n budget i : ℕ) (j k : Searching) (u : Tables K S Q) → In (job n (worked.Searching j)) js → Works C st qu file j budget t u (work.Went (worked.Searching k) i)
-        → (n + budget < 2 + most b) × (n + budget < j.capacity + 1)
+    pub goes : (n : ℕ) (j : Searching) → In (job n (worked.Searching j)) js → (n < 2 + most b) × (n < j.numbers.progress.capacity + 1)
+    pub surely : (n budget i : ℕ) (j k : Searching) (u : Tables K S Q) → In (job n (worked.Searching j)) js → Works C st qu file j budget t u (Ok (worked.Searching k, i))
+        → (n + budget < 2 + most b) × (n + budget < j.numbers.progress.capacity + 1)
     -- another job is opened on the tables only where every job before found node 0 in its first step: the goal holds in the start
     pub reopens : (n : ℕ) (w : Worked) (j : Searching) (u : Tables K S Q) → In (job n w) js → Opens C st qu file t u (Ok j) → (n ≡ 1) × ((f : Found) × (w ≡ worked.Found f) × (f.node ≡ 0))
 
@@ -78,7 +78,7 @@ pub record Again {K S Q R P : Type 0} (file : List ℕ) (t : Tables K S Q) (u : 
   pub job : Found
   pub is : w ≡ worked.Found job
   pub steps : m ≡ n
-  pub stored : job.stored ≡ f.stored
+  pub stored : job.numbers.progress.stored ≡ f.progress.stored
   pub moves : (count total : ℕ) (out after more later : List ℕ) → ReadsPlan file f t out (Ok count) after → ReadsPlan file job u more (Ok total) later → take total later ≡ take count after
 
 module _ {K S Q R P : Type 0} (C : cost.Ghosts K) (st : store.Ghosts S) (qu : queue.Ghosts Q K) (st' : store.Ghosts R) (qu' : queue.Ghosts P K) where
@@ -86,8 +86,8 @@ module _ {K S Q R P : Type 0} (C : cost.Ghosts K) (st : store.Ghosts S) (qu : qu
   -- but in other tables and of other makes, with at least that capacity, found the same moves in the same order in as many steps;
   -- and where it told that there is no plan, so did the other
   pub record Repeats (file : List ℕ) (t : Tables K S Q) (js : List Job) (u : Tables K R P) (ks : List Job) : Type 0 where
-    pub found : (n m : ℕ) (f : Found) (w : Worked) → In (job n (worked.Found f)) js → In (job m w) ks → ended w ≡ true → f.capacity ≤ capacity_of w → Again file t u n m f w
-    pub none : (n m : ℕ) (x : NoPlan) (w : Worked) → In (job n (worked.NoPlan x)) js → In (job m w) ks → ended w ≡ true → x.capacity ≤ capacity_of w → ((y : NoPlan) × (w ≡ worked.NoPlan y)) × (m ≡ n)
+    pub found : (n m : ℕ) (f : Found) (w : Worked) → In (job n (worked.Found f)) js → In (job m w) ks → ended w ≡ true → f.progress.capacity ≤ capacity_of w → Again file t u n m f w
+    pub none : (n m : ℕ) (x : NoPlan) (w : Worked) → In (job n (worked.NoPlan x)) js → In (job m w) ks → ended w ≡ true → x.progress.capacity ≤ capacity_of w → ((y : NoPlan) × (w ≡ worked.NoPlan y)) × (m ≡ n)
 
   abbrev pub AlwaysRepeats : Type 0
   AlwaysRepeats = (file : List ℕ) (b : Bodies) (t : Tables K S Q) (js : List Job) (u : Tables K R P) (ks : List Job) → reading file ≡ Ok b → Calls C st qu file t js → Calls C st' qu' file u ks → Repeats file t js u ks

@@ -2,13 +2,14 @@
 use Rattle.std.proofs.Common.{◌≡◌, ℕ, ◌*◌, ◌<◌, ◌≤◌, List, ◌++◌, length, get_or, drop, Ok, Err, Result, sym, refl, ap, ◌∙◌, subst, inl, inr, arith}
 use Rattle.rows.specs.declared.refusals.Refusal.{Refusal}
 use Rattle.rows.specs.declared.refusals.Refusal.TheVariants.{Torn}
-use Rattle.task.specs.Files.{Bodies, width, move_count, reading}
+use Rattle.task.specs.Files.{Bodies, move_count, reading}
 use Rattle.planning.proofs.Lists.{nth_some}
 use Rattle.steps.specs.declared.tables.Record.{Record}
 use Rattle.steps.specs.declared.tables.Tables.{Tables}
 use Rattle.chains.specs.Chains.{Chain, Refused, torn, short}
 use Rattle.chains.proofs.Chains.{nth_reads, never_both, one_chain}
 use Rattle.search.specs.declared.jobs.Found.{Found}
+use Rattle.search.specs.Files.{Shaped}
 use Rattle.search.specs.Plans.{Serves, PlansOn, Costed, CostsOn}
 use Rattle.search.specs.Reads.{Legible, Unread, ReadsPlan, ReadsCost}
 use Rattle.search.proofs.Openings.{same_bodies}
@@ -31,18 +32,16 @@ module _ {K S Q : Type 0} (file : List ℕ) (b : Bodies) (f : Found) (t : Tables
   legible : (plan : List ℕ) → Serves b f t → Chain t.records.now (move_count b) f.node plan → Legible file f t plan
   legible plan s c = record {
     bodies = b;
-    suits = record { reads = reads; variables = s.0.0; moves = s.0.1 };
-    bytes = subst (λ z. f.capacity * z ≤ length t.rows.now) s.0.0 s.1.1;
+    suits = record { reads = reads; shaped = s.0 };
+    bytes = subst (λ z. f.progress.capacity * z ≤ length t.rows.now) s.0.0 s.1.1;
     records = s.1.0;
     chain = subst (λ z. Chain t.records.now z f.node plan) s.0.1 c;
   }
 
   serves : (plan : List ℕ) → Legible file f t plan → Serves b f t
   serves plan l =
-      let e = same_bodies file l.bodies b l.suits.reads reads in
-      let v : width b ≡ f.variables = ap width (sym e) ∙ l.suits.variables in
-      let m : move_count b ≡ f.moves = ap move_count (sym e) ∙ l.suits.moves in
-      ((v, m), (l.records, subst (λ z. f.capacity * z ≤ length t.rows.now) (sym v) l.bytes))
+      let h = subst (Shaped f.shape) (same_bodies file l.bodies b l.suits.reads reads) l.suits.shaped in
+      (h, (l.records, subst (λ z. f.progress.capacity * z ≤ length t.rows.now) (sym h.0) l.bytes))
 
   chained : (plan : List ℕ) → Legible file f t plan → Chain t.records.now (move_count b) f.node plan
   chained plan l = subst (λ z. Chain t.records.now z f.node plan) (sym (serves plan l).0.1) l.chain

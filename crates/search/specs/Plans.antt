@@ -8,19 +8,16 @@ use Rattle.steps.specs.declared.tables.Tables.{Tables}
 use Rattle.steps.specs.Memories.{At}
 use Rattle.chains.specs.Chains.{Chain, Broken, Reading}
 use Rattle.search.specs.declared.jobs.Found.{Found}
-
--- the bodies have the variables and moves that the job notes
-abbrev pub Numbered : Bodies → Found → Type 0
-Numbered b f = (width b ≡ f.variables) × (move_count b ≡ f.moves)
+use Rattle.search.specs.Files.{Shaped}
 
 -- row bytes, at so many to a row, and records have space for as many nodes as the job's capacity
 abbrev pub Roomy : {K S Q : Type 0} → ℕ → Found → Tables K S Q → Type 0
-Roomy v f t = (f.capacity ≤ length t.records.now) × (f.capacity * v ≤ length t.rows.now)
+Roomy v f t = (f.progress.capacity ≤ length t.records.now) × (f.progress.capacity * v ≤ length t.rows.now)
 
 module _ {K S Q : Type 0} (b : Bodies) (f : Found) (t : Tables K S Q) where
-  -- the bodies are the job's by their numbers, and the tables are large enough
+  -- the bodies have the shape that the job notes, and the tables are large enough
   abbrev pub Serves : Type 0
-  Serves = Numbered b f × Roomy (width b) f t
+  Serves = Shaped f.shape b × Roomy (width b) f t
 
   -- reading the plan: Torn, and nothing written, if they do not serve; else what reading the found node's chain answers
   abbrev pub PlansOn : List ℕ → Result ℕ Refusal → List ℕ → Type 0

@@ -15,10 +15,10 @@ module _ {K S Q : Type 0} (file : List ℕ) (f : Found) (t : Tables K S Q) where
   -- many nodes as its capacity, and the chain of the found node is not broken: these are its moves
   pub record Legible (plan : List ℕ) : Type 0 where
     pub bodies : Bodies
-    pub suits : Suits file f.variables f.moves bodies
-    pub bytes : f.capacity * f.variables ≤ length t.rows.now
-    pub records : f.capacity ≤ length t.records.now
-    pub chain : Chain t.records.now f.moves f.node plan
+    pub suits : Suits file f.shape bodies
+    pub bytes : f.progress.capacity * f.shape.variables ≤ length t.rows.now
+    pub records : f.progress.capacity ≤ length t.records.now
+    pub chain : Chain t.records.now f.shape.moves f.node plan
 
   -- the grounds of refusal, in order: Torn exactly if no plan can be read; else Short buffer, if the plan has more moves than the
   -- buffer has cells

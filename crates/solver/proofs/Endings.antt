@@ -10,7 +10,7 @@ use Rattle.search.specs.declared.jobs.Searching.{Searching}
 use Rattle.search.specs.declared.jobs.Found.{Found}
 use Rattle.search.specs.declared.jobs.Worked.{Worked}
 use Rattle.search.specs.declared.jobs.Worked.TheVariants as worked
-use Rattle.search.specs.declared.jobs.Work.TheVariants as work
+use Rattle.search.specs.declared.jobs.Unworked.TheVariants as work
 use Rattle.search.specs.Opens.{Opens}
 use Rattle.search.specs.Works.{Works}
 use Rattle.follow.specs.Histories.{opened}
@@ -33,7 +33,7 @@ module _ {K S Q : Type 0} (C : cost.Ghosts K) (st : store.Ghosts S) (qu : queue.
   pub declined : (s t : Tables K S Q) (out : List ℕ) (e : Refusal) → Opens C st qu file s t (Err e) → Both s t out out (Err e)
   declined s t out e o = both s t out out (Err e) (refl, inl o)
 
-  pub never_torn : (s m t : Tables K S Q) (j k : Searching) (budget i : ℕ) → Opens C st qu file s m (Ok j) → Works C st qu file j budget m t (work.Torn k i) → ⊥
+  pub never_torn : (s m t : Tables K S Q) (j k : Searching) (budget i : ℕ) → Opens C st qu file s m (Ok j) → Works C st qu file j budget m t (Err (work.Torn k i)) → ⊥
   never_torn s m t j k budget i o w = jobs_never_refused C st qu file s m t 0 budget i j k (opened m j o) w
 
   found_ends : (s t : Tables K S Q) (out after : List ℕ) (f : Found) (r : Result (Solved K) Refusal) → Ran C st qu file s t (worked.Found f) → FoundReads file f t out after r → Solves C st qu file s t out after r
@@ -49,7 +49,7 @@ module _ {K S Q : Type 0} (C : cost.Ghosts K) (st : store.Ghosts S) (qu : queue.
       let reads = ran.opens.1 in
       (same, inr (f, ran, p, (p.0.short _ (legible C st qu file b reads t (0 + ran.steps) f (life_of C st qu file s t b reads f ran))).0))
 
-  worked_ends : (s m t : Tables K S Q) (out after : List ℕ) (j : Searching) (w : Worked) (n : ℕ) (r : Result (Solved K) Refusal) → Opens C st qu file s m (Ok j) → Works C st qu file j 65536 m t (work.Went w n) → Finishes file w t out after r → Solves C st qu file s t out after r
+  worked_ends : (s m t : Tables K S Q) (out after : List ℕ) (j : Searching) (w : Worked) (n : ℕ) (r : Result (Solved K) Refusal) → Opens C st qu file s m (Ok j) → Works C st qu file j 65536 m t (Ok (w, n)) → Finishes file w t out after r → Solves C st qu file s t out after r
   worked_ends s m t out after j (worked.Searching k) n r o w h =
       absurd ((jobs_end C st qu file o.0 o.1).surely s m t 0 65536 n j k (opened m j o) (omega (arith, j.short)) w)
   worked_ends s m t out after j (worked.Found f) n r o w h = found_ends s t out after f r (record { first = m; job = j; steps = n; opens = o; works = w }) h
@@ -58,5 +58,5 @@ module _ {K S Q : Type 0} (C : cost.Ghosts K) (st : store.Ghosts S) (qu : queue.
   worked_ends s m t out after j (worked.OutOfSpace x) n r o w h =
       subst (λ z. Solves C st qu file s t out after z) (sym h.0) (x, record { first = m; job = j; steps = n; opens = o; works = w }, h.1)
 
-  pub went_ends : (s m t : Tables K S Q) (out after : List ℕ) (j : Searching) (w : Worked) (budget n : ℕ) (r : Result (Solved K) Refusal) → Opens C st qu file s m (Ok j) → Works C st qu file j budget m t (work.Went w n) → budget ≡ 65536 → Finishes file w t out after r → Both s t out after r
-  went_ends s m t out after j w budget n r o k e h = both s t out after r (worked_ends s m t out after j w n r o (subst (λ z. Works C st qu file j z m t (work.Went w n)) e k) h)
+  pub went_ends : (s m t : Tables K S Q) (out after : List ℕ) (j : Searching) (w : Worked) (budget n : ℕ) (r : Result (Solved K) Refusal) → Opens C st qu file s m (Ok j) → Works C st qu file j budget m t (Ok (w, n)) → budget ≡ 65536 → Finishes file w t out after r → Both s t out after r
+  went_ends s m t out after j w budget n r o k e h = both s t out after r (worked_ends s m t out after j w n r o (subst (λ z. Works C st qu file j z m t (Ok (w, n))) e k) h)

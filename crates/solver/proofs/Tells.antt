@@ -23,7 +23,7 @@ use Rattle.search.specs.declared.jobs.NoPlan.{NoPlan}
 use Rattle.search.specs.declared.jobs.OutOfSpace.{OutOfSpace}
 use Rattle.search.specs.declared.jobs.Worked.{Worked}
 use Rattle.search.specs.declared.jobs.Worked.TheVariants as worked
-use Rattle.search.specs.declared.jobs.Work.TheVariants as work
+use Rattle.search.specs.declared.jobs.Unworked.TheVariants as work
 use Rattle.search.specs.Opens.{Opens}
 use Rattle.search.specs.Reads.{ReadsPlan}
 use Rattle.follow.specs.Histories.{History, opened, went, capacity_of}
@@ -42,7 +42,7 @@ use Rattle.solver.specs.Solutions.{Ran, BothRead, Solves, Solution, Found_told, 
 module _ {K S Q : Type 0} (C : cost.Ghosts K) (st : store.Ghosts S) (qu : queue.Ghosts Q K) (file : List ℕ) (s t : Tables K S Q) where
   -- the search as a list of two calls
   pub calls : (w : Worked) (r : Ran C st qu file s t w) → Calls C st qu file t (job (0 + r.steps) w ∷ [])
-  calls w r = works r.first t [] [] 0 65536 r.job (work.Went w r.steps) (opens s r.first [] r.job (none s r.opens.2.new.kept r.opens.2.new.waiting) r.opens) r.works
+  calls w r = works r.first t [] [] 0 65536 r.job (Ok (w, r).steps) (opens s r.first [] r.job (none s r.opens.2.new.kept r.opens.2.new.waiting) r.opens) r.works
 
   history : (w : Worked) (r : Ran C st qu file s t w) → History C st qu file s (0 + r.steps) t w
   history w r = went 0 65536 r.steps r.first t r.job w (opened r.first r.job r.opens) r.works
@@ -64,8 +64,8 @@ module _ {K S Q : Type 0} (C : cost.Ghosts K) (st : store.Ghosts S) (qu : queue.
         let a = C.arithmetic in
         let p = regression (task_of b) in
         let e = capacity_is (worked.Found f) r in
-        let c = found_cheapest a p (law C file b reads).lawful f.capacity (0 + r.steps) f.node d.0 d.1 in
-        let chain : Chain t.records.now (move_count b) f.node c.moves = subst (λ z. Chain t.records.now z f.node c.moves) (move_count_lem b) (noted_chain (chain_of C (task_of b) (memory st qu t f.stored f.cover) d.0 d.2 c.reads)) in
+        let c = found_cheapest a p (law C file b reads).lawful f.progress.capacity (0 + r.steps) f.node d.0 d.1 in
+        let chain : Chain t.records.now (move_count b) f.node c.moves = subst (λ z. Chain t.records.now z f.node c.moves) (move_count_lem b) (noted_chain (chain_of C (task_of b) (memory st qu t f.progress.stored f.progress.cover) d.0 d.2 c.reads)) in
         let is : c.moves ≡ (noted f r).moves = (noted f r).only c.moves (chain_noted ((life_of f r).back f (move_count b) c.moves refl chain)) in
         let read : Reads a p d.0.nodes f.node (noted f r).moves = subst (λ z. Reads a p d.0.nodes f.node z) is c.reads in
         record {

@@ -19,7 +19,7 @@ use Rattle.search.specs.declared.jobs.NoPlan.{NoPlan}
 use Rattle.search.specs.declared.jobs.OutOfSpace.{OutOfSpace}
 use Rattle.search.specs.declared.jobs.Worked.{Worked}
 use Rattle.search.specs.declared.jobs.Worked.TheVariants as worked
-use Rattle.search.specs.declared.jobs.Work.TheVariants as work
+use Rattle.search.specs.declared.jobs.Unworked.TheVariants as work
 use Rattle.search.specs.Files.{Refused}
 use Rattle.search.specs.Opens.{Opens}
 use Rattle.search.specs.Works.{Works}
@@ -35,7 +35,7 @@ module _ {K S Q : Type 0} (C : cost.Ghosts K) (st : store.Ghosts S) (qu : queue.
     pub job : Searching
     pub steps : ℕ
     pub opens : Opens C st qu file s first (Ok job)
-    pub works : Works C st qu file job 65536 first t (work.Went w steps)
+    pub works : Works C st qu file job 65536 first t (Ok (w, steps))
 
   -- the plan and the cost of a found job were read
   pub record BothRead (f : Found) (t : Tables K S Q) (out after : List ℕ) (k : K) (count : ℕ) : Type 0 where

@@ -1,13 +1,7 @@
-use Rattle.std.proofs.Common.{◌-◌, ◌≤◌}
 use Rattle.task.specs.Answers.{held}
 use Rattle.task.specs.Files.{task_of}
 use Rattle.search.proofs.Workings.{Going}
 use Rattle.search.proofs.works.work_on.Given as goal
 
 abbrev pub invariant-loop-done : goal.invariant-loop-done
-invariant-loop-done g l =
-    (l.done ≤ l.budget)
-    × Going g.K.Cost g.S.Store g.Q.Queue (task_of (held l.accepted.task)) l.initial.job l.initial.t l.done l.t l.job
-
-abbrev pub decreases-loop-done : goal.decreases-loop-done
-decreases-loop-done g l = l.budget - l.done
+invariant-loop-done g l = Going g.K.Cost g.S.Store g.Q.Queue (task_of (held l.accepted.task)) l.initial.job l.initial.t l.done l.t l.job
