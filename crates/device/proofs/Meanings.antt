@@ -85,7 +85,7 @@ module _ (b : Bodies) (ok : Regresses (task_of b)) where
       → Reads spend (regression (task_of b)) r.nodes k ms → Cheapest spend (task_of b) ms
   tells_cheapest {i} {k} {r} {ms} e g =
       let f = found_cheapest spend (regression (task_of b)) ok.lawful (capacity_of (width b)) i k r e in
-      subst (λ z. Cheapest spend (task_of b) z) (sym (f.only ms g)) (best_cheapest spend (task_of b) ok f.shape.moves f.best)
+      subst (λ z. Cheapest spend (task_of b) z) (sym (f.only ms g)) (best_cheapest spend (task_of b) ok f.moves f.best)
 
   -- how a run ended can be told
   told : {i : ℕ} {r : Run spend (regression (task_of b))} (o : Outcome) → going o ≡ false → Ends spend (regression (task_of b)) (capacity_of (width b)) i o r → (text : List ℕ) × Tells b text
@@ -93,7 +93,7 @@ module _ (b : Bodies) (ok : Regresses (task_of b)) where
   told expanded g e = absurd (both_ways true g refl)
   told {i} {r} (found k) g e =
       let f = found_cheapest spend (regression (task_of b)) ok.lawful (capacity_of (width b)) i k r e in
-      (plan_text b (plan_cost spend (task_of b) f.shape.moves) f.shape.moves, plan e f.reads)
+      (plan_text b (plan_cost spend (task_of b) f.moves) f.moves, plan e f.reads)
   told no_plan g e = (no_plan_text, none e)
   told out_of_space g e = (out_of_space_text, space e)
 

@@ -27,11 +27,11 @@ use Rattle.device.proofs.Sizes.{read_usable, Sized, sized_new, sized_capacity}
 module _ (file : List ℕ) (m : Memory Spend) where
   -- the text of a plan that was found
   tell_plan : (b : Bodies) (cap : ℕ) (out after ms : List ℕ) (k : Spend) (count : ℕ) → cap ≡ capacity_of (width b) → Solution kind.ghosts b cap ms
-      → limited k.amount k.shape.moves ≡ plan_cost spend (task_of b) ms → count ≡ length ms → after ≡ ms ++ drop count out → Searched b after (Ok (Found k count))
+      → limited k.amount k.moves ≡ plan_cost spend (task_of b) ms → count ≡ length ms → after ≡ ms ++ drop count out → Searched b after (Ok (Found k count))
   tell_plan b cap out after ms k count e s cost n w =
       let here : take count after ≡ ms = ap (take count) w ∙ take_at ms (drop count out) count (sym n) in
-      let text : plan_text b (plan_cost spend (task_of b) ms) ms ≡ plan_text b (limited k.amount k.shape.moves) (take count after)
-      = ap (λ z. plan_text b z ms) (sym cost) ∙ ap (plan_text b (limited k.amount k.shape.moves)) (sym here) in
+      let text : plan_text b (plan_cost spend (task_of b) ms) ms ≡ plan_text b (limited k.amount k.moves) (take count after)
+      = ap (λ z. plan_text b z ms) (sym cost) ∙ ap (plan_text b (limited k.amount k.moves)) (sym here) in
       let ended = subst (λ z. Ends spend (regression (task_of b)) z s.ended.steps (found s.node) s.ended.run) e s.ended.ends in (
         omega (arith, ap length w, length-append ms (drop count out)),
         subst (λ z. Tells b z) text (plan ended s.reads),
@@ -50,7 +50,7 @@ module _ (file : List ℕ) (m : Memory Spend) where
         let e : h.bodies ≡ b = ok_one h.bodies b (sym h.reads ∙ reads) in
         tell_plan b (capacity (task_of b) m) out after h.plan k count same_capacity
         (subst (λ z. Solution kind.ghosts z (capacity (task_of z) m) h.plan) e h.solution)
-        (subst (λ z. limited k.amount k.shape.moves ≡ plan_cost spend (task_of z) h.plan) e h.cost) h.counted h.written
+        (subst (λ z. limited k.amount k.moves ≡ plan_cost spend (task_of z) h.plan) e h.cost) h.counted h.written
     tells out after (Ok NoPlan) l h =
         let e : h.0.bodies ≡ b = ok_one h.0.bodies b (sym h.0.reads ∙ reads) in
         none (ended_at h.0.bodies no_plan e h.0.ended).ends

@@ -1,6 +1,6 @@
 -- What a job's history leaves: tables that hold a run which goes on, or has ended in the same way.
-use Rattle.std.proofs.Common.{◌≡◌, ℕ, ◌+◌, ◌<◌, List, length, None, Ok, sym, ap, ◌∙◌, subst, inl, inr}
-use Rattle.task.specs.Files.{Bodies, width, move_count, reading, task_of}
+use Rattle.std.proofs.Common.{◌≡◌, ℕ, ◌+◌, ◌<◌, List, length, None, Ok, Err, sym, ap, ◌∙◌, subst, inl, inr}
+use Rattle.task.specs.Files.{Bodies, reading, task_of}
 use Rattle.cost.specs.declared.costs.Cost as cost
 use Rattle.store.specs.declared.stores.Store as store
 use Rattle.queue.specs.declared.queues.Queue as queue
@@ -16,7 +16,7 @@ use Rattle.search.specs.declared.jobs.Searching.{Searching}
 use Rattle.search.specs.declared.jobs.Worked.{Worked}
 use Rattle.search.specs.declared.jobs.Worked.TheVariants as worked
 use Rattle.search.specs.declared.jobs.Unworked.TheVariants as work
-use Rattle.search.specs.Files.{Suits}
+use Rattle.search.specs.Files.{Suits, Shaped}
 use Rattle.steps.specs.Begins.{capacity}
 use Rattle.search.specs.Opens.{Opened}
 use Rattle.search.specs.Works.{standing, WorksOn, Works}
@@ -32,8 +32,7 @@ module _ {K S Q : Type 0} (C : cost.Ghosts K) (st : store.Ghosts S) (qu : queue.
   pub record Live (n : ℕ) (t : Tables K S Q) (j : Searching) : Type 0 where
     pub bodies : Bodies
     pub reads : reading file ≡ Ok bodies
-    pub variables : width bodies ≡ j.shape.variables
-    pub moves : move_count bodies ≡ j.shape.moves
+    pub shaped : Shaped j.shape bodies
     pub capacity : j.numbers.progress.capacity ≡ capacity (task_of bodies) (memory st qu s 0 None)
     pub ordered : qu.ordered t.queue
     pub run : Run C.arithmetic (regression (task_of bodies))
@@ -51,7 +50,7 @@ module _ {K S Q : Type 0} (C : cost.Ghosts K) (st : store.Ghosts S) (qu : queue.
 
   abbrev pub State : ℕ → Tables K S Q → Worked → Type 0
   State n t (worked.Searching j) = Live n t j
-  State n t (worked.Found f) = Over f.progress.capacity n (found f.node) (memory st qu t f.progress.stored f.progress.cover) × ((d : Bodies) × Suits file f.shape.variables f.shape.moves d)
+  State n t (worked.Found f) = Over f.progress.capacity n (found f.node) (memory st qu t f.progress.stored f.progress.cover) × ((d : Bodies) × Suits file f.shape d)
   State n t (worked.NoPlan x) = Over x.progress.capacity n no_plan (memory st qu t x.progress.stored x.progress.cover)
   State n t (worked.OutOfSpace x) = Over x.progress.capacity n out_of_space (memory st qu t x.progress.stored x.progress.cover)
 
@@ -63,8 +62,7 @@ module _ {K S Q : Type 0} (C : cost.Ghosts K) (st : store.Ghosts S) (qu : queue.
       record {
         bodies = b;
         reads = read;
-        variables = sym o.variables;
-        moves = sym o.moves;
+        shaped = o.shaped;
         capacity = o.capacity;
         ordered = o.ordered;
         run = _;
@@ -103,8 +101,7 @@ module _ {K S Q : Type 0} (C : cost.Ghosts K) (st : store.Ghosts S) (qu : queue.
       record {
         bodies = l.bodies;
         reads = l.reads;
-        variables = l.variables ∙ sym same.variables;
-        moves = l.moves ∙ sym same.moves;
+        shaped = subst (λ z. Shaped z l.bodies) (sym same.shape) l.shaped;
         capacity = same.capacity ∙ l.capacity;
         ordered = g.0;
         run = f.0;
@@ -112,7 +109,7 @@ module _ {K S Q : Type 0} (C : cost.Ghosts K) (st : store.Ghosts S) (qu : queue.
       }
   went_state n b i t u j (worked.Found f) l h = (
     over l f.progress.capacity (found f.node) (memory st qu u f.progress.stored f.progress.cover) h.1.capacity (h.2 l.ordered).1,
-    (l.bodies, record { reads = l.reads; variables = l.variables ∙ sym h.1.variables; moves = l.moves ∙ sym h.1.moves }),
+    (l.bodies, record { reads = l.reads; shaped = subst (λ z. Shaped z l.bodies) (sym h.1.shape) l.shaped }),
   )
   went_state n b i t u j (worked.NoPlan x) l h = over l x.progress.capacity no_plan (memory st qu u x.progress.stored x.progress.cover) h.1 (h.2 l.ordered).1
   went_state n b i t u j (worked.OutOfSpace x) l h = over l x.progress.capacity out_of_space (memory st qu u x.progress.stored x.progress.cover) h.1 (h.2 l.ordered).1
@@ -127,7 +124,7 @@ module _ {K S Q : Type 0} (C : cost.Ghosts K) (st : store.Ghosts S) (qu : queue.
       g.2 (intact C task acc j.numbers.progress.capacity f.1)
 
   pub never_refused : (n b i : ℕ) (t u : Tables K S Q) (j k : Searching) → Live n t j → Works C st qu file j b t u (Err (work.Torn k i)) → ⊥
-  never_refused n b i t u j k l (pos, inl w) = w.0 l.bodies (record { reads = l.reads; variables = l.variables; moves = l.moves })
+  never_refused n b i t u j k l (pos, inl w) = w.0 l.bodies (record { reads = l.reads; shaped = l.shaped })
   never_refused n b i t u j k l (pos, inr w) =
       not_torn n b i t u j k l (again (λ d. WorksOn C st qu (task_of d) j b t u (Err (work.Torn k i))) l.bodies w.0 l.reads w.1.reads w.2)
 

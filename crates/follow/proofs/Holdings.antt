@@ -84,23 +84,23 @@ module _ {K : Type 0} (C : cost.Ghosts K) (task : Task) where
 
   pub held_taken : (e : Entry K) (s t : Memory K) (r : Run C.arithmetic (regression task)) → Held C task s r → Taken C task e s t → Held C task t (taken C.arithmetic (regression task) r e.number)
   held_taken e s t r h k = record {
-    stored = k.numbers.progress.stored ∙ h.stored;
+    stored = k.stored ∙ h.stored;
     nodes = λ n x q. same_node s t n x k.bytes k.records (h.nodes n x q);
-    kept = k.numbers.kept ∙ h.kept;
+    kept = k.kept ∙ h.kept;
     waiting = shuffled_without e.number (map number t.waiting) r.waiting
         (IsPermutation-trans (map number (e ∷ t.waiting)) (map number s.waiting) r.waiting (shuffled_map number (e ∷ t.waiting) s.waiting k.rest) h.waiting);
     costs = λ d x has q. h.costs d x (has_shuffled (e ∷ t.waiting) s.waiting d k.rest (has_append_right (e ∷ []) t.waiting d has)) q;
-    cover = k.numbers.progress.cover ∙ h.cover;
+    cover = k.cover ∙ h.cover;
   }
 
   pub held_kept : (row : Row) (s t : Memory K) (r : Run C.arithmetic (regression task)) → Held C task s r → Kept C task row s t → Held C task t (keeping C.arithmetic (regression task) r row)
   held_kept row s t r h k = record {
-    stored = k.numbers.progress.stored ∙ h.stored;
+    stored = k.stored ∙ h.stored;
     nodes = λ n x q. same_node s t n x k.bytes k.records (h.nodes n x q);
-    kept = k.numbers.kept ∙ ap (λ z. z ++ row ∷ []) h.kept;
-    waiting = subst (λ z. IsPermutation (map number z) r.waiting) (sym k.numbers.waiting) h.waiting;
-    costs = λ d x has q. h.costs d x (subst (λ z. Has z d) k.numbers.waiting has) q;
-    cover = k.numbers.progress.cover ∙ h.cover;
+    kept = k.kept ∙ ap (λ z. z ++ row ∷ []) h.kept;
+    waiting = subst (λ z. IsPermutation (map number z) r.waiting) (sym k.waiting) h.waiting;
+    costs = λ d x has q. h.costs d x (subst (λ z. Has z d) k.waiting has) q;
+    cover = k.cover ∙ h.cover;
   }
 
   pub ample_taken : (cap : ℕ) (e : Entry K) (s t : Memory K) → Ample C task cap s → Taken C task e s t → Ample C task cap t
@@ -183,20 +183,20 @@ module _ {K : Type 0} (C : cost.Ghosts K) (task : Task) where
         move = d.move;
       } in
       record {
-        stored = k.numbers.progress.stored ∙ omega (arith, h.stored, length-append r.nodes (y ∷ []));
+        stored = k.stored ∙ omega (arith, h.stored, length-append r.nodes (y ∷ []));
         nodes = λ i z q. elim (last_or r.nodes y z i q) [
           | inl l ↦ subst (λ w. HeldNode C task t i w) (sym l.1) (subst (λ w. HeldNode C task t w y) (h.stored ∙ sym l.0) fresh)
           | inr l ↦ kept_node i z l.0 l.1
         ];
-        kept = k.numbers.kept ∙ h.kept;
+        kept = k.kept ∙ h.kept;
         waiting =
-            (let mapped : IsPermutation (s.stored ∷ map number s.waiting) (map number t.waiting) = shuffled_map number (entry ∷ s.waiting) t.waiting k.numbers.waiting in
+            (let mapped : IsPermutation (s.stored ∷ map number s.waiting) (map number t.waiting) = shuffled_map number (entry ∷ s.waiting) t.waiting k.waiting in
             subst (λ w. IsPermutation (map number t.waiting) (r.waiting ++ w ∷ [])) h.stored
             (IsPermutation-trans (map number t.waiting) (s.stored ∷ map number s.waiting) (r.waiting ++ s.stored ∷ [])
             (IsPermutation-sym (s.stored ∷ map number s.waiting) (map number t.waiting) mapped)
             (shuffled_push s.stored (map number s.waiting) r.waiting h.waiting)));
         costs = λ d z has q.
-            elim (has_cons entry s.waiting d (has_shuffled t.waiting (entry ∷ s.waiting) d (IsPermutation-sym (entry ∷ s.waiting) t.waiting k.numbers.waiting) has)) [
+            elim (has_cons entry s.waiting d (has_shuffled t.waiting (entry ∷ s.waiting) d (IsPermutation-sym (entry ∷ s.waiting) t.waiting k.waiting) has)) [
               | inl is ↦
                   (let nd : d.number ≡ length r.nodes = ap (λ w. w.number) (sym is) ∙ h.stored in
                   let zy : z ≡ y = some_inj z y (sym q ∙ nth_push r.nodes y d.number nd) in
@@ -205,7 +205,7 @@ module _ {K : Type 0} (C : cost.Ghosts K) (task : Task) where
                   (let ld : d.number < length r.nodes = ws d.number (waits s r d h there) in
                   h.costs d z there (sym (nth_left r.nodes (y ∷ []) d.number ld) ∙ q))
             ];
-        cover = k.numbers.progress.cover ∙ h.cover;
+        cover = k.cover ∙ h.cover;
       }
 
   -- the entry that the queue names is the least node

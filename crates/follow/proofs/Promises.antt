@@ -19,7 +19,6 @@ use Rattle.steps.specs.Holdings.{Held, Ample}
 use Rattle.search.specs.declared.jobs.Searching.{Searching}
 use Rattle.search.specs.declared.jobs.Worked.{Worked}
 use Rattle.search.specs.declared.jobs.Worked.TheVariants as worked
-use Rattle.search.specs.declared.jobs.Unworked.TheVariants as work
 use Rattle.search.specs.Files.{Suits}
 use Rattle.steps.specs.Begins.{capacity}
 use Rattle.search.specs.Works.{Works}
@@ -47,13 +46,13 @@ module _ {K : Type 0} (C : cost.Ghosts K) (file : List ℕ) (b : Bodies) (reads 
   finds : {cap n k : ℕ} {m : Memory K} → OverAt cap n (found k) m → Finds C b m.records k
   finds {cap} {n} {k} {m} o =
       let f = found_cheapest C.arithmetic (regression (task_of b)) law.lawful cap n k o.run o.ends in
-      let c : Chain (move_count b) m.records k f.shape.moves = subst (λ z. Chain z m.records k f.shape.moves) (move_count_lem b) (chain_of C (task_of b) m o.run o.held f.reads) in
+      let c : Chain (move_count b) m.records k f.moves = subst (λ z. Chain z m.records k f.moves) (move_count_lem b) (chain_of C (task_of b) m o.run o.held f.reads) in
       let d = o.held.nodes k f.node f.there in
       record {
-        moves = f.shape.moves;
+        moves = f.moves;
         chain = c;
         only = λ ms e. chain_unique e c refl;
-        cheapest = best_cheapest C.arithmetic (task_of b) law f.shape.moves f.best;
+        cheapest = best_cheapest C.arithmetic (task_of b) law f.moves f.best;
         noted = d.noted;
         there = d.there;
         cost = d.cost ∙ f.cost;
@@ -115,7 +114,7 @@ module _ {K S Q : Type 0} (C : cost.Ghosts K) (st : store.Ghosts S) (qu : queue.
 
   defined : (n : ℕ) (t : Tables K S Q) (w : Worked) → State C st qu file s n t w → AsDefined C st qu file b n t w
   defined n t (worked.Searching j) l = live_at n t j l
-  defined n t (worked.Found f) l = let v = over_at l.0 in (v.run, v.ends, v.held, v.ample, subst (λ z. Suits file f.shape.variables f.shape.moves z) (read_one file l.1.0 b l.1.1.reads reads) l.1.1)
+  defined n t (worked.Found f) l = let v = over_at l.0 in (v.run, v.ends, v.held, v.ample, subst (λ z. Suits file f.shape z) (read_one file l.1.0 b l.1.1.reads reads) l.1.1)
   defined n t (worked.NoPlan x) l = let v = over_at l in (v.run, v.ends, v.held, v.ample)
   defined n t (worked.OutOfSpace x) l = let v = over_at l in (v.run, v.ends, v.held, v.ample)
 

@@ -44,10 +44,10 @@ module _ {K : Type 0} (C : cost.Ghosts K) (file : List ℕ) (b : Bodies) (reads 
       let a = C.arithmetic in
       let p = regression (task_of b) in
       let f = found_cheapest a p (law C file b reads).lawful c n k v.run v.ends in
-      let mine : Chain (move_count b) x.records k f.shape.moves = subst (λ z. Chain z x.records k f.shape.moves) (move_count_lem b) (chain_of C (task_of b) x v.run v.held f.reads) in
-      let is : f.shape.moves ≡ ms = chain_unique mine chain refl in
-      let read : Reads a p w.run.nodes k f.shape.moves = subst (λ z. Reads a p z k f.shape.moves) r.alike.nodes f.reads in
-      let theirs : Chain (move_count b) y.records k f.shape.moves = subst (λ z. Chain z y.records k f.shape.moves) (move_count_lem b) (chain_of C (task_of b) y w.run w.held read) in
+      let mine : Chain (move_count b) x.records k f.moves = subst (λ z. Chain z x.records k f.moves) (move_count_lem b) (chain_of C (task_of b) x v.run v.held f.reads) in
+      let is : f.moves ≡ ms = chain_unique mine chain refl in
+      let read : Reads a p w.run.nodes k f.moves = subst (λ z. Reads a p z k f.moves) r.alike.nodes f.reads in
+      let theirs : Chain (move_count b) y.records k f.moves = subst (λ z. Chain z y.records k f.moves) (move_count_lem b) (chain_of C (task_of b) y w.run w.held read) in
       subst (λ z. Chain (move_count b) y.records z ms) (sym (found_inj i k r.how)) (subst (λ z. Chain (move_count b) y.records k z) is theirs)
 
 module _ {K S Q R P : Type 0} (C : cost.Ghosts K) (st : store.Ghosts S) (qu : queue.Ghosts Q K) (st' : store.Ghosts R) (qu' : queue.Ghosts P K) (file : List ℕ) (b : Bodies) (reads : reading file ≡ Ok b) where

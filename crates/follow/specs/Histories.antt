@@ -1,5 +1,5 @@
 -- The life of a job, built from what its calls say of themselves.
-use Rattle.std.specs.Prelude.{ℕ, ◌+◌, ◌<◌, Bool, true, false, List, [], ◌∷◌, Ok}
+use Rattle.std.specs.Prelude.{ℕ, ◌+◌, ◌<◌, Bool, true, false, List, [], ◌∷◌, Ok, Err}
 use Rattle.cost.specs.declared.costs.Cost as cost
 use Rattle.store.specs.declared.stores.Store as store
 use Rattle.queue.specs.declared.queues.Queue as queue
@@ -10,6 +10,7 @@ use Rattle.search.specs.declared.jobs.Searching.{Searching}
 use Rattle.search.specs.declared.jobs.Worked.{Worked}
 use Rattle.search.specs.declared.jobs.Worked.TheVariants as worked
 use Rattle.search.specs.declared.jobs.Unworked.TheVariants as work
+use Rattle.search.specs.Readings.{progress_of}
 use Rattle.search.specs.Opens.{Opens}
 use Rattle.search.specs.Works.{Works}
 
@@ -30,10 +31,7 @@ ended (worked.NoPlan x) = true
 ended (worked.OutOfSpace x) = true
 
 abbrev pub capacity_of : Worked → ℕ
-capacity_of (worked.Searching j) = j.numbers.progress.capacity
-capacity_of (worked.Found f) = f.progress.capacity
-capacity_of (worked.NoPlan x) = x.progress.capacity
-capacity_of (worked.OutOfSpace x) = x.progress.capacity
+capacity_of w = (progress_of w).capacity
 
 -- the moves noted from node n along the parents to node 0, whose own is left out; each is below the number of moves
 pub data Chain {K : Type 0} (moves : ℕ) (records : List (Record K)) : ℕ → List ℕ → Type 0 where

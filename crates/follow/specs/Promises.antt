@@ -1,5 +1,5 @@
 -- What is promised of every job, by its history.
-use Rattle.std.specs.Prelude.{◌≡◌, ℕ, ◌+◌, ◌*◌, ◌<◌, ◌≤◌, true, List, None, Ok}
+use Rattle.std.specs.Prelude.{◌≡◌, ℕ, ◌+◌, ◌*◌, ◌<◌, ◌≤◌, true, List, None, Ok, Err}
 use Rattle.rows.specs.Rows.{covers}
 use Rattle.task.specs.Files.{Bodies, move_count, reading, task_of}
 use Rattle.cost.specs.declared.costs.Cost as cost
@@ -45,10 +45,10 @@ module _ {K S Q : Type 0} (C : cost.Ghosts K) (st : store.Ghosts S) (qu : queue.
   NeverRefused = (file : List ℕ) (s t u : Tables K S Q) (n budget i : ℕ) (j k : Searching) → History C st qu file s n t (worked.Searching j) → Works C st qu file j budget t u (Err (work.Torn k i)) → ⊥
 
   -- the run of the definitions that a job's tables hold, with space for as many nodes as its capacity says: it goes on after as
-  -- many steps, or ended in that step in the same way. The file still has as many variables and moves as a found job notes
+  -- many steps, or ended in that step in the same way. The file still has the shape that a found job notes
   abbrev pub AsDefined : List ℕ → Bodies → ℕ → Tables K S Q → Worked → Type 0
   AsDefined file b n t (worked.Searching j) = (r : Run C.arithmetic (regression (task_of b))) × After C.arithmetic (regression (task_of b)) j.numbers.progress.capacity n r × Held C (task_of b) (memory st qu t j.numbers.progress.stored j.numbers.progress.cover) r × Ample C (task_of b) j.numbers.progress.capacity (memory st qu t j.numbers.progress.stored j.numbers.progress.cover)
-  AsDefined file b n t (worked.Found f) = (r : Run C.arithmetic (regression (task_of b))) × Ends C.arithmetic (regression (task_of b)) f.progress.capacity n (found f.node) r × Held C (task_of b) (memory st qu t f.progress.stored f.progress.cover) r × Ample C (task_of b) f.progress.capacity (memory st qu t f.progress.stored f.progress.cover) × Suits file f.shape.variables f.shape.moves b
+  AsDefined file b n t (worked.Found f) = (r : Run C.arithmetic (regression (task_of b))) × Ends C.arithmetic (regression (task_of b)) f.progress.capacity n (found f.node) r × Held C (task_of b) (memory st qu t f.progress.stored f.progress.cover) r × Ample C (task_of b) f.progress.capacity (memory st qu t f.progress.stored f.progress.cover) × Suits file f.shape b
   AsDefined file b n t (worked.NoPlan x) = (r : Run C.arithmetic (regression (task_of b))) × Ends C.arithmetic (regression (task_of b)) x.progress.capacity n no_plan r × Held C (task_of b) (memory st qu t x.progress.stored x.progress.cover) r × Ample C (task_of b) x.progress.capacity (memory st qu t x.progress.stored x.progress.cover)
   AsDefined file b n t (worked.OutOfSpace x) = (r : Run C.arithmetic (regression (task_of b))) × Ends C.arithmetic (regression (task_of b)) x.progress.capacity n out_of_space r × Held C (task_of b) (memory st qu t x.progress.stored x.progress.cover) r × Ample C (task_of b) x.progress.capacity (memory st qu t x.progress.stored x.progress.cover)
 
@@ -99,7 +99,7 @@ pub record SameFound {K : Type 0} (b : Bodies) (records others : List (Record K)
   pub is : w ≡ worked.Found job
   pub steps : m ≡ n
   pub node : job.node ≡ f.node
-  pub stored : job.numbers.progress.stored ≡ f.progress.stored
+  pub stored : job.progress.stored ≡ f.progress.stored
   pub moves : (ms : List ℕ) → Chain (move_count b) records f.node ms → Chain (move_count b) others job.node ms
 
 module _ {K S Q R P : Type 0} (C : cost.Ghosts K) (st : store.Ghosts S) (qu : queue.Ghosts Q K) (st' : store.Ghosts R) (qu' : queue.Ghosts P K) where

@@ -42,10 +42,8 @@ pub fn suffices<K: Cost, S: Store, Q: Queue<K>>(capacity: u16, rows: u64, moves:
     ensures space { SpaceSuffices K.Cost S.Store Q.Queue }
 {
     space_suffices::<K, S, Q>();
-    match rows.checked_mul(moves) {
-        Some(most) => most < capacity as u64,
-        None => false,
-    }
+    rows.checked_mul(moves)
+        .is_some_and(|most| most < u64::from(capacity))
 }
 
 // Holds the proof that jobs end, and do the steps of the definitions.
@@ -61,7 +59,7 @@ pub fn steps_left<K: Cost, S: Store, Q: Queue<K>>(capacity: u16, done: u32) -> u
     ensures defined { StepsAsDefined K.Cost S.Store Q.Queue }
 {
     jobs_end::<K, S, Q>();
-    (capacity as u32 + 1).saturating_sub(done)
+    (u32::from(capacity) + 1).saturating_sub(done)
 }
 
 // Holds the proof that jobs repeat each other.

@@ -18,7 +18,7 @@ pub fn row_place<K: Cost>(node: u16, variables: u8) -> u32
     ensures whole { (task : Task) → NeverTorn K.Cost task }
 {
     steps_alike::<K>();
-    node as u32 * variables as u32
+    u32::from(node) * u32::from(variables)
 }
 
 // Holds the proof that opened tables hold a run as it is opened.
@@ -46,5 +46,5 @@ pub fn steps_done<K: Cost>(before: u32, more: u32) -> u64
     ensures works { (task : Task) → WorksAlike K.Cost task }
 {
     works_alike::<K>();
-    before as u64 + more as u64
+    u64::from(before) + u64::from(more)
 }

@@ -13,7 +13,6 @@ use Rattle.search.specs.declared.jobs.Searching.{Searching}
 use Rattle.search.specs.declared.jobs.Found.{Found}
 use Rattle.search.specs.declared.jobs.Worked.{Worked}
 use Rattle.search.specs.declared.jobs.Worked.TheVariants as worked
-use Rattle.search.specs.declared.jobs.Unworked.TheVariants as work
 use Rattle.search.specs.Files.{Suits}
 use Rattle.search.specs.Works.{Works}
 use Rattle.search.specs.Reads.{Legible, PlanRead, ReadsPlan, CostRead}
@@ -35,21 +34,21 @@ module _ {K S Q : Type 0} (C : cost.Ghosts K) (st : store.Ghosts S) (qu : queue.
     pub finds : Finds C b l.tables.records.now f.node
     finds = jobs_cheapest C st qu file b l.begins l.tables n f reads l.history
 
-    suits : Suits file f.shape.variables f.shape.moves b
+    suits : Suits file f.shape b
     suits = (jobs_defined C st qu file b l.begins l.tables n (worked.Found f) reads l.history).4
 
     pub legible : Legible file f t finds.moves
     legible = record {
       bodies = b;
       suits = suits;
-      bytes = subst (λ z. f.progress.capacity * z ≤ length t.rows.now) suits.variables l.ample.bytes;
+      bytes = subst (λ z. f.progress.capacity * z ≤ length t.rows.now) suits.shaped.0 l.ample.bytes;
       records = l.ample.records;
-      chain = subst (λ z. Chain t.records.now z f.node finds.moves) suits.moves (l.there f (move_count b) finds.moves refl (noted_chain finds.chain));
+      chain = subst (λ z. Chain t.records.now z f.node finds.moves) suits.shaped.1 (l.there f (move_count b) finds.moves refl (noted_chain finds.chain));
     }
 
     -- whatever plan is read, it is that one
     pub plan_is : (plan : List ℕ) → Legible file f t plan → plan ≡ finds.moves
-    plan_is plan g = finds.only plan (chain_noted (l.back f (move_count b) plan refl (subst (λ z. Chain t.records.now z f.node plan) (sym suits.moves) g.chain)))
+    plan_is plan g = finds.only plan (chain_noted (l.back f (move_count b) plan refl (subst (λ z. Chain t.records.now z f.node plan) (sym suits.shaped.1) g.chain)))
 
     read_is : (count : ℕ) (out after : List ℕ) → PlanRead file f t out count after → take count after ≡ finds.moves
     read_is count out after r = front_read r.plan out after count r.counted r.written ∙ plan_is r.plan r.legible

@@ -1,5 +1,5 @@
 -- The lives of the jobs of a call list: all but the last found node 0 at once, and the last one's history led to the tables.
-use Rattle.std.proofs.Common.{◌≡◌, ℕ, ◌<◌, ◌≤◌, ◌&&◌, ltb, leb, ◌⊎◌, List, [], ◌∷◌, ◌++◌, length, None, Ok, Option, sym, refl, ap, ◌∙◌, subst, inl, inr, mul-le-mul_right, le-div_iff_mul-le, arith, length-append}
+use Rattle.std.proofs.Common.{◌≡◌, ℕ, ◌<◌, ◌≤◌, ◌&&◌, ltb, leb, ◌⊎◌, List, [], ◌∷◌, ◌++◌, length, None, Ok, Err, Option, sym, refl, ap, ◌∙◌, subst, inl, inr, mul-le-mul_right, le-div_iff_mul-le, arith, length-append}
 use native.Mathlib.Nat.{le-min}
 use Rattle.std.proofs.lemmas.Bool.{and_parts, ltb-true}
 use Rattle.rows.specs.Rows.{valued}
@@ -141,7 +141,7 @@ module _ {K S Q : Type 0} (C : cost.Ghosts K) (st : store.Ghosts S) (qu : queue.
           is = once.is;
           node = once.node;
           once = once.steps;
-          small = (let q : capacity_of g.state ≡ once.job.numbers.progress.capacity = ap capacity_of once.is in omega arith);
+          small = (let q : capacity_of g.state ≡ once.job.progress.capacity = ap capacity_of once.is in omega arith);
           history = h;
         },
       )

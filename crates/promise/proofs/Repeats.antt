@@ -17,7 +17,7 @@ use Rattle.promise.proofs.Keeps.{front_read, finds, plan_is}
 use Rattle.follow.specs.Histories.{ended, capacity_of, Chain}
 
 module _ {K S Q R P : Type 0} (C : cost.Ghosts K) (st : store.Ghosts S) (qu : queue.Ghosts Q K) (st' : store.Ghosts R) (qu' : queue.Ghosts P K) (file : List ℕ) (b : Bodies) (reads : reading file ≡ Ok b) where
-  again_found : (t : Tables K S Q) (u : Tables K R P) (n m : ℕ) (f g : Found) → Life C st qu file b reads t (job n (worked.Found f)) → Life C st' qu' file b reads u (job m (worked.Found g)) → f.progress.capacity ≤ g.capacity → Again file t u n m f (worked.Found g)
+  again_found : (t : Tables K S Q) (u : Tables K R P) (n m : ℕ) (f g : Found) → Life C st qu file b reads t (job n (worked.Found f)) → Life C st' qu' file b reads u (job m (worked.Found g)) → f.progress.capacity ≤ g.progress.capacity → Again file t u n m f (worked.Found g)
   again_found t u n m f g l k le =
       let same = (repeatable C st qu st' qu' file b reads).found l.begins l.tables k.begins k.tables n m f (worked.Found g) l.history k.history refl le in
       let is : worked.Found g ≡ worked.Found same.job = same.is in
@@ -29,7 +29,7 @@ module _ {K S Q R P : Type 0} (C : cost.Ghosts K) (st : store.Ghosts S) (qu : qu
         job = g;
         is = refl;
         steps = same.steps;
-        stored = ap (λ z. z.stored) (sym one) ∙ same.stored;
+        stored = ap (λ z. z.progress.stored) (sym one) ∙ same.stored;
         moves = λ count total out after more later r q.
             front_read q.plan more later total q.counted q.written
             ∙ plan_is C st' qu' file b reads u m g k q.plan q.legible

@@ -78,7 +78,7 @@ pub record Again {K S Q R P : Type 0} (file : List ℕ) (t : Tables K S Q) (u : 
   pub job : Found
   pub is : w ≡ worked.Found job
   pub steps : m ≡ n
-  pub stored : job.numbers.progress.stored ≡ f.progress.stored
+  pub stored : job.progress.stored ≡ f.progress.stored
   pub moves : (count total : ℕ) (out after more later : List ℕ) → ReadsPlan file f t out (Ok count) after → ReadsPlan file job u more (Ok total) later → take total later ≡ take count after
 
 module _ {K S Q R P : Type 0} (C : cost.Ghosts K) (st : store.Ghosts S) (qu : queue.Ghosts Q K) (st' : store.Ghosts R) (qu' : queue.Ghosts P K) where

@@ -1,5 +1,6 @@
 -- A whole search is made of its calls: neither working nor reading is refused torn, and the budget suffices.
 use Rattle.std.proofs.Common.{◌≡◌, ℕ, ◌+◌, List, None, Ok, Err, Result, sym, refl, subst, inl, inr, arith}
+use Rattle.std.specs.Result.{IsErrAnd}
 use Rattle.rows.specs.declared.refusals.Refusal.{Refusal}
 use Rattle.cost.specs.declared.costs.Cost as cost
 use Rattle.store.specs.declared.stores.Store as store
@@ -10,6 +11,7 @@ use Rattle.search.specs.declared.jobs.Searching.{Searching}
 use Rattle.search.specs.declared.jobs.Found.{Found}
 use Rattle.search.specs.declared.jobs.Worked.{Worked}
 use Rattle.search.specs.declared.jobs.Worked.TheVariants as worked
+use Rattle.search.specs.declared.jobs.Unworked.{Unworked}
 use Rattle.search.specs.declared.jobs.Unworked.TheVariants as work
 use Rattle.search.specs.Opens.{Opens}
 use Rattle.search.specs.Works.{Works}
@@ -33,6 +35,11 @@ module _ {K S Q : Type 0} (C : cost.Ghosts K) (st : store.Ghosts S) (qu : queue.
   pub declined : (s t : Tables K S Q) (out : List ℕ) (e : Refusal) → Opens C st qu file s t (Err e) → Both s t out out (Err e)
   declined s t out e o = both s t out out (Err e) (refl, inl o)
 
+  -- what the exit of a `?` returns is the error
+  pub declines : (s t : Tables K S Q) (out : List ℕ) (e : Refusal) (r : Result (Solved K) Refusal) → IsErrAnd r (λ x. x ≡ e) → Opens C st qu file s t (Err e) → Both s t out out r
+  declines s t out e (Err x) h o = subst (λ z. Both s t out out (Err z)) (sym h) (declined s t out e o)
+  declines s t out e (Ok x) h o = absurd h
+
   pub never_torn : (s m t : Tables K S Q) (j k : Searching) (budget i : ℕ) → Opens C st qu file s m (Ok j) → Works C st qu file j budget m t (Err (work.Torn k i)) → ⊥
   never_torn s m t j k budget i o w = jobs_never_refused C st qu file s m t 0 budget i j k (opened m j o) w
 
@@ -51,12 +58,17 @@ module _ {K S Q : Type 0} (C : cost.Ghosts K) (st : store.Ghosts S) (qu : queue.
 
   worked_ends : (s m t : Tables K S Q) (out after : List ℕ) (j : Searching) (w : Worked) (n : ℕ) (r : Result (Solved K) Refusal) → Opens C st qu file s m (Ok j) → Works C st qu file j 65536 m t (Ok (w, n)) → Finishes file w t out after r → Solves C st qu file s t out after r
   worked_ends s m t out after j (worked.Searching k) n r o w h =
-      absurd ((jobs_end C st qu file o.0 o.1).surely s m t 0 65536 n j k (opened m j o) (omega (arith, j.short)) w)
+      absurd ((jobs_end C st qu file o.0 o.1).surely s m t 0 65536 n j k (opened m j o) (omega (arith, j.numbers.progress.short)) w)
   worked_ends s m t out after j (worked.Found f) n r o w h = found_ends s t out after f r (record { first = m; job = j; steps = n; opens = o; works = w }) h
   worked_ends s m t out after j (worked.NoPlan x) n r o w h =
       subst (λ z. Solves C st qu file s t out after z) (sym h.0) (x, record { first = m; job = j; steps = n; opens = o; works = w }, h.1)
   worked_ends s m t out after j (worked.OutOfSpace x) n r o w h =
       subst (λ z. Solves C st qu file s t out after z) (sym h.0) (x, record { first = m; job = j; steps = n; opens = o; works = w }, h.1)
+
+  -- a budget that suffices is not 0, and such a working is not refused
+  pub never_refused : (s m t : Tables K S Q) (j : Searching) (u : Unworked) (budget : ℕ) → Opens C st qu file s m (Ok j) → budget ≡ 65536 → Works C st qu file j budget m t (Err u) → ⊥
+  never_refused s m t j (work.Idle k) budget o e w = omega (arith, e, w.0)
+  never_refused s m t j (work.Torn k i) budget o e w = never_torn s m t j k budget i o w
 
   pub went_ends : (s m t : Tables K S Q) (out after : List ℕ) (j : Searching) (w : Worked) (budget n : ℕ) (r : Result (Solved K) Refusal) → Opens C st qu file s m (Ok j) → Works C st qu file j budget m t (Ok (w, n)) → budget ≡ 65536 → Finishes file w t out after r → Both s t out after r
   went_ends s m t out after j w budget n r o k e h = both s t out after r (worked_ends s m t out after j w n r o (subst (λ z. Works C st qu file j z m t (Ok (w, n))) e k) h)

@@ -23,7 +23,6 @@ use Rattle.search.specs.declared.jobs.NoPlan.{NoPlan}
 use Rattle.search.specs.declared.jobs.OutOfSpace.{OutOfSpace}
 use Rattle.search.specs.declared.jobs.Worked.{Worked}
 use Rattle.search.specs.declared.jobs.Worked.TheVariants as worked
-use Rattle.search.specs.declared.jobs.Unworked.TheVariants as work
 use Rattle.search.specs.Opens.{Opens}
 use Rattle.search.specs.Reads.{ReadsPlan}
 use Rattle.follow.specs.Histories.{History, opened, went, capacity_of}
@@ -42,7 +41,7 @@ use Rattle.solver.specs.Solutions.{Ran, BothRead, Solves, Solution, Found_told, 
 module _ {K S Q : Type 0} (C : cost.Ghosts K) (st : store.Ghosts S) (qu : queue.Ghosts Q K) (file : List ℕ) (s t : Tables K S Q) where
   -- the search as a list of two calls
   pub calls : (w : Worked) (r : Ran C st qu file s t w) → Calls C st qu file t (job (0 + r.steps) w ∷ [])
-  calls w r = works r.first t [] [] 0 65536 r.job (Ok (w, r).steps) (opens s r.first [] r.job (none s r.opens.2.new.kept r.opens.2.new.waiting) r.opens) r.works
+  calls w r = works r.first t [] [] 0 65536 r.job (Ok (w, r.steps)) (opens s r.first [] r.job (none s r.opens.2.new.kept r.opens.2.new.waiting) r.opens) r.works
 
   history : (w : Worked) (r : Ran C st qu file s t w) → History C st qu file s (0 + r.steps) t w
   history w r = went 0 65536 r.steps r.first t r.job w (opened r.first r.job r.opens) r.works
@@ -73,7 +72,7 @@ module _ {K S Q : Type 0} (C : cost.Ghosts K) (st : store.Ghosts S) (qu : queue.
           ended = record { steps = 0 + r.steps; run = d.0; ends = subst (λ z. Ends a p z (0 + r.steps) (found f.node) d.0) e d.1 };
           reads = read;
           cheapest = (noted f r).cheapest;
-          few = omega (arith, reads_length a p read, f.below, f.within, e);
+          few = omega (arith, reads_length a p read, f.below, f.progress.within, e);
         }
 
   told_found : (out after : List ℕ) (k : K) (count : ℕ) (f : Found) → Ran C st qu file s t (worked.Found f) → BothRead C st qu file f t out after k count → Found_told C file (memory st qu s 0 None) out after k count

@@ -19,7 +19,6 @@ use Rattle.search.specs.declared.jobs.NoPlan.{NoPlan}
 use Rattle.search.specs.declared.jobs.OutOfSpace.{OutOfSpace}
 use Rattle.search.specs.declared.jobs.Worked.{Worked}
 use Rattle.search.specs.declared.jobs.Worked.TheVariants as worked
-use Rattle.search.specs.declared.jobs.Unworked.TheVariants as work
 use Rattle.search.specs.Files.{Refused}
 use Rattle.search.specs.Opens.{Opens}
 use Rattle.search.specs.Works.{Works}

@@ -7,7 +7,7 @@ use cost::costs::Cost;
 use promise::promises::enough_steps;
 use queue::queues::Queue;
 use rows::refusals::Refusal;
-use search::jobs::{Found, Work, Worked};
+use search::jobs::{Found, Worked};
 use search::opens::open;
 use steps::tables::Tables;
 use store::stores::Store;
@@ -21,13 +21,9 @@ fn read_found<K: Cost, S: Store, Q: Queue<K>>(
 ) -> Result<Solved<K>, Refusal>
     ensures { FoundReads file.now job.now t.now out.old out.new result }
 {
-    match job.cost(file, t) {
-        Err(e) => Err(e),
-        Ok(cost) => match job.plan(file, t, out) {
-            Err(e) => Err(e),
-            Ok(count) => Ok(Solved::Found(cost, count)),
-        },
-    }
+    let cost = job.cost(file, t)?;
+    let count = job.plan(file, t, out)?;
+    Ok(Solved::Found(cost, count))
 }
 
 // What a job tells that was worked to its end.
@@ -58,12 +54,7 @@ pub fn solve<K: Cost, S: Store, Q: Queue<K>>(
     ensures calls { Solves K.Cost S.Store Q.Queue file.now t.old t.new out.old out.new result }
     ensures tells { Tells K.Cost file.now (memory S.Store Q.Queue t.old 0 None) out.old out.new result }
 {
-    match open(file, t) {
-        Err(e) => Err(e),
-        Ok(job) => match job.work(file, t, enough_steps::<K, S, Q, S, Q>()) {
-            Work::Idle(_) => Err(Refusal::Idle),
-            Work::Torn(_, _) => Err(Refusal::Torn),
-            Work::Went(worked, _) => finish(&worked, file, t, out),
-        },
-    }
+    let job = open(file, t)?;
+    let (worked, _) = job.work(file, t, enough_steps::<K, S, Q, S, Q>())?;
+    finish(&worked, file, t, out)
 }
