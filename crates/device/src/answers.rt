@@ -30,75 +30,35 @@ const BYTES: usize = 4096;
 
 const CELLS: usize = 4097;
 
-// Searches in new tables of the device's sizes, over any store and queue.
-fn search_with<'m, S: Store + Drop, Q: Queue<Spend> + Drop>(
-    input: &[u8],
-    accepted: &Accepted<'_>,
-    rows: &'m mut [u8],
-    records: &'m mut [Record<Spend>],
-    store: S,
-    queue: Q,
-    moves: &mut [u16],
-) -> Result<Solved<Spend>, Refusal>
-    requires reads { reading input.now ≡ Ok (held accepted.now.task) }
-    requires rows { length rows.old ≡ 4096 }
-    requires records { length records.old ≡ 1024 }
-    requires table { S.Store.table store ≡ accepted.now.task.values.now }
-    requires kept { S.Store.kept store ≡ [] }
-    requires space { S.Store.space store ≡ space_of accepted.now.task.values.now 4096 }
-    requires waiting { Q.Queue.entries queue ≡ [] }
-    requires room { Q.Queue.room queue ≡ 1024 }
-    requires cells { length moves.old ≡ 1024 }
-    ensures { Searched (held accepted.now.task) moves.new result }
-{
-    let mut t = Tables {
-        rows,
-        records,
-        store,
-        queue,
-    };
-    let solved = solve(input, &mut t, moves);
-    let Tables {
-        rows: _,
-        records: _,
-        store: _,
-        queue: _,
-    } = t;
-    solved
+// An input that was read as a task.
+#[derive(Clone, Copy)]
+pub struct Input<'a> {
+    bytes: &'a [u8],
+    accepted: Accepted<'a>,
+    ghost reads: { reading bytes.now ≡ Ok (held accepted.task) },
 }
 
-// Searches in lent memory of the device's sizes.
-fn search_in<'m>(
-    input: &[u8],
-    accepted: &Accepted<'_>,
-    rows: &'m mut [u8],
-    records: &'m mut [Record<Spend>],
-    cells: &mut [Cell],
-    entries: &mut [Entry<Spend>],
-    moves: &mut [u16],
+// Searches in new tables of the device's sizes, over any store and queue.
+fn search_with<S: Store + Drop, Q: Queue<Spend> + Drop>(
+    input: &Input<'_>,
+    mut t: Tables<'_, Spend, S, Q>,
+    moves: &mut [u16; NODES],
 ) -> Result<Solved<Spend>, Refusal>
-    requires reads { reading input.now ≡ Ok (held accepted.now.task) }
-    requires rows { length rows.old ≡ 4096 }
-    requires records { length records.old ≡ 1024 }
-    requires cells { length cells.old ≡ 4097 }
-    requires entries { length entries.old ≡ 1024 }
-    requires moves { length moves.old ≡ 1024 }
-    ensures { Searched (held accepted.now.task) moves.new result }
+    requires rows { length t.rows.now ≡ 4096 }
+    requires records { length t.records.now ≡ 1024 }
+    requires table { S.Store.table t.store ≡ input.now.accepted.task.values.now }
+    requires kept { S.Store.kept t.store ≡ [] }
+    requires space { S.Store.space t.store ≡ space_of input.now.accepted.task.values.now 4096 }
+    requires waiting { Q.Queue.entries t.queue ≡ [] }
+    requires room { Q.Queue.room t.queue ≡ 1024 }
+    ensures { Searched (held input.now.accepted.task) moves.new result }
 {
-    let store = Trie::new(accepted.task.values, cells);
-    let queue = Heap::new(entries);
-    search_with(input, accepted, rows, records, store, queue, moves)
+    solve(input.bytes, &mut t, moves)
 }
 
 // Searches for a plan of the task in an input; the plan's moves are then in the first of the lent cells.
-fn search(
-    input: &[u8],
-    accepted: &Accepted<'_>,
-    moves: &mut [u16],
-) -> Result<Solved<Spend>, Refusal>
-    requires reads { reading input.now ≡ Ok (held accepted.now.task) }
-    requires moves { length moves.old ≡ 1024 }
-    ensures { Searched (held accepted.now.task) moves.new result }
+fn search(input: &Input<'_>, moves: &mut [u16; NODES]) -> Result<Solved<Spend>, Refusal>
+    ensures { Searched (held input.now.accepted.task) moves.new result }
 {
     let mut rows = [0; BYTES];
     let cost = Spend::nothing();
@@ -109,15 +69,13 @@ fn search(
     }; NODES];
     let mut cells = [Cell::blank(); CELLS];
     let mut entries = [Entry { cost, number: 0 }; NODES];
-    search_in(
-        input,
-        accepted,
-        &mut rows,
-        &mut records,
-        &mut cells,
-        &mut entries,
-        moves,
-    )
+    let t = Tables {
+        rows: &mut rows,
+        records: &mut records,
+        store: Trie::new(input.accepted.task.values, &mut cells),
+        queue: Heap::new(&mut entries),
+    };
+    search_with(input, t, moves)
 }
 
 // The bytes of the longest input that is read.
@@ -142,31 +100,30 @@ fn is_too_long(input: &[u8]) -> bool
 
 // Writes what a search tells of a task.
 fn tell(
-    accepted: &Accepted<'_>,
+    input: &Input<'_>,
     solved: Solved<Spend>,
-    moves: &[u16],
+    moves: &[u16; NODES],
     out: &mut [u8],
 ) -> Result<usize, Refusal>
-    requires { Searched (held accepted.now.task) moves.now (Ok solved) }
-    ensures { (text : List ℕ) × Tells (held accepted.now.task) text × Puts text out.old result out.new }
+    requires { Searched (held input.now.accepted.task) moves.now (Ok solved) }
+    ensures { (text : List ℕ) × Tells (held input.now.accepted.task) text × Puts text out.old result out.new }
 {
     match solved {
-        Solved::Found(cost, count) => write_plan(accepted, cost.amount(), &moves[0..count], out),
+        Solved::Found(cost, count) => {
+            write_plan(&input.accepted, cost.amount(), &moves[0..count], out)
+        }
         Solved::NoPlan => write_text(b"no plan\n", out),
         Solved::OutOfSpace => write_text(b"out of space\n", out),
     }
 }
 
 // Searches for a plan of a task and writes what that tells.
-fn answer_for(input: &[u8], accepted: &Accepted<'_>, out: &mut [u8]) -> Result<usize, Refusal>
-    requires { reading input.now ≡ Ok (held accepted.now.task) }
-    ensures { (text : List ℕ) × Tells (held accepted.now.task) text × Puts text out.old result out.new }
+fn answer_for(input: &Input<'_>, out: &mut [u8]) -> Result<usize, Refusal>
+    ensures { (text : List ℕ) × Tells (held input.now.accepted.task) text × Puts text out.old result out.new }
 {
     let mut moves = [0; NODES];
-    match search(input, accepted, &mut moves) {
-        Err(e) => Err(e),
-        Ok(solved) => tell(accepted, solved, &moves, out),
-    }
+    let solved = search(input, &mut moves)?;
+    tell(input, solved, &moves, out)
 }
 
 // Answers an input by a text in the buffer, and tells its length: the cost of a cheapest plan of the task and the names of its moves,
@@ -184,6 +141,6 @@ pub fn answer(input: &[u8], out: &mut [u8]) -> Result<usize, Refusal>
     }
     match read(input) {
         Err(_) => write_text(b"refused 7\n", out),
-        Ok(task) => answer_for(input, &Accepted { task }, out),
+        Ok(accepted) => answer_for(&Input { bytes: input, accepted }, out),
     }
 }

@@ -1,8 +1,8 @@
 #![tactic(auto)]
 
-ghost use Rattle.std.specs.Prelude.{◌≡◌, ◌+◌, ◌<◌, ◌≤◌, ◌++◌, length, decimal, MatchBool};
+ghost use Rattle.std.specs.Prelude.{◌≡◌, ◌+◌, ◌<◌, ◌≤◌, ◌++◌, length, codes, MatchBool};
 ghost use Rattle.task.specs.Answers.{held};
-ghost use Rattle.device.specs.Texts.{newline, name_of, name_lines, cost_line, plan_text, Placed, Puts};
+ghost use Rattle.device.specs.Texts.{newline, name_of, name_lines, plan_text, Placed, Puts};
 
 mod answers;
 
@@ -29,37 +29,13 @@ fn put_line(out: &mut [u8], at: usize, line: &[u8]) -> usize
     put(out, end, b"\n")
 }
 
-// How many decimal digits a number has.
-fn digits(n: u64) -> usize
-    ensures { result ≡ length (decimal n) }
-{
-    if n < 10 {
-        return 1;
-    }
-    digits(n / 10) + 1
-}
-
-// Writes a number in decimal at a place, and answers where it ends.
-fn put_number(out: &mut [u8], at: usize, n: u64) -> usize
-    requires { at + length (decimal n) ≤ length out.old }
-    ensures { Placed at (decimal n) out.old result out.new }
-{
-    let last = [b'0' + (n % 10) as u8];
-    if n < 10 {
-        return put(out, at, &last);
-    }
-    let end = put_number(out, at, n / 10);
-    put(out, end, &last)
-}
-
 // Writes the line of an amount, and answers where it ends.
-fn put_cost(out: &mut [u8], amount: u64) -> usize
-    requires { length (cost_line amount) ≤ length out.old }
-    ensures { Placed 0 (cost_line amount) out.old result out.new }
+fn put_cost(out: &mut [u8], amount: &str) -> usize
+    requires { length amount.now + 6 ≤ length out.old }
+    ensures { Placed 0 (codes "cost " ++ (amount.now ++ newline)) out.old result out.new }
 {
     let word = put(out, 0, b"cost ");
-    let number = put_number(out, word, amount);
-    put(out, number, b"\n")
+    put_line(out, word, amount.as_bytes())
 }
 
 // The name of a move; empty if there is no such move.
@@ -108,11 +84,10 @@ fn write_plan(
 ) -> Result<usize, Refusal>
     ensures { Puts (plan_text (held accepted.now.task) amount moves.now) out.old result out.new }
 {
-    let head = digits(amount) + 6;
-    if out.len() < head {
-        return Err(Refusal::ShortBuffer);
-    }
-    if !names_fit(accepted, moves, out.len() - head) {
+    let mut digits = itoa::Buffer::new();
+    let amount = digits.format(amount);
+    let head = amount.len() + 6;
+    if out.len() < head || !names_fit(accepted, moves, out.len() - head) {
         return Err(Refusal::ShortBuffer);
     }
     let end = put_cost(out, amount);

@@ -8,6 +8,7 @@ pub struct Record<K> {
 
 // The memory that a job works in, lent by the caller: the rows of the nodes side by side, their records, the store of kept
 // rows and the queue of waiting nodes.
+#[derive(Drop)]
 pub struct Tables<'a, K, S, Q> {
     pub rows: &'a mut [u8],
     pub records: &'a mut [Record<K>],

@@ -17,11 +17,6 @@ returns-then-is_too_long c =
       enough = enough c.args.input.now too_long c.args.out.now c.write_text.new.out c.write_text.result s c.write_text.ensures;
     }
 
-pub invariant_of-answer_for : goal.invariant_of-answer_for
-invariant_of-answer_for c =
-    let j = (read_parts c.args.input.now (held c.in-Ok.task) c.in-Ok.ensures.reading).judged in
-    record { counted = j.counted; positioned = j.positioned; priced = j.priced; named = j.named }
-
 pub returns-in-Err : goal.returns-in-Err
 returns-in-Err c =
     let s = refused c.if-is_too_long.ensures c.in-Err.ensures.reading in
