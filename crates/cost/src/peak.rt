@@ -6,11 +6,11 @@ use crate::priced::{Kind, Priced};
 
 // The largest price, 0 for nothing.
 #[derive(Clone, Copy)]
-pub struct Largest;
+pub struct Highest;
 
-pub type Peak = Priced<Largest>;
+pub type Peak = Priced<Highest>;
 
-impl Kind for Largest {
+impl Kind for Highest {
     ghost arithmetic = { peak };
 
     ghost meaning = { λ a m. a };

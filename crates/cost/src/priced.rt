@@ -53,7 +53,7 @@ impl<R: Kind> Priced<R> {
     fn counted(self) -> (u64, u16)
         ensures { result ≡ (limited self.amount self.moves, self.moves) }
     {
-        (limit(self.amount, self.moves), self.moves)
+        (self.amount(), self.moves)
     }
 }
 
