@@ -12,12 +12,16 @@ loop-i-preserved g c =
     let x = c.index-row-i in
     let y = c.index-row-best in
     elim c.if-goes_before.branch [
-      | then-goes_before w ↦
-          (omega (arith, w.best-is), subst (λ (b : ℕ). First C xs (i + 1) b) (sym w.best-is)
-          (first_moved C xs i c.loop-i.best x.result y.result (omega arith) inv.0 inv.1 x.is y.is w.if-goes_before.ensures))
-      | else-goes_before w ↦
-          (omega (arith, w.best-is), subst (λ (b : ℕ). First C xs (i + 1) b) (sym w.best-is)
-          (first_kept C xs i c.loop-i.best x.result y.result (omega arith) inv.0 inv.1 x.is y.is w.if-goes_before.ensures))
+      | then-goes_before w ↦ (
+        omega (arith, w.best-is),
+        subst (λ (b : ℕ). First C xs (i + 1) b) (sym w.best-is)
+            (first_moved C xs i c.loop-i.best x.result y.result (omega arith) inv.0 inv.1 x.is y.is w.if-goes_before.ensures),
+      )
+      | else-goes_before w ↦ (
+        omega (arith, w.best-is),
+        subst (λ (b : ℕ). First C xs (i + 1) b) (sym w.best-is)
+            (first_kept C xs i c.loop-i.best x.result y.result (omega arith) inv.0 inv.1 x.is y.is w.if-goes_before.ensures),
+      )
     ]
 
 pub returns : goal.returns
