@@ -5,7 +5,6 @@ ghost use Rattle.cost.specs.Kinds.{peak};
 use crate::priced::{Kind, Priced};
 
 // The largest price, 0 for nothing.
-#[derive(Clone, Copy)]
 pub struct Highest;
 
 pub type Peak = Priced<Highest>;

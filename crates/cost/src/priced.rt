@@ -8,7 +8,7 @@ use rows::refusals::Refusal;
 use std::marker::PhantomData;
 
 // What sets one kind of cost apart: what an amount and a number of moves mean, and how two of them join and compare.
-pub trait Kind: Copy {
+pub trait Kind {
     ghost arithmetic: { Arithmetic };
 
     // the value of an amount and so many moves
@@ -41,7 +41,7 @@ pub trait Kind: Copy {
 }
 
 // A cost of this kind, plain in memory.
-#[derive(Clone, Copy)]
+#[derive_where(Clone, Copy)]
 pub struct Priced<R> {
     pub amount: u64,
     pub moves: u16,

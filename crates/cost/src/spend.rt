@@ -5,7 +5,6 @@ ghost use Rattle.cost.specs.Kinds.{spend};
 use crate::priced::{Kind, Priced};
 
 // The sum of the prices.
-#[derive(Clone, Copy)]
 pub struct Sum;
 
 pub type Spend = Priced<Sum>;

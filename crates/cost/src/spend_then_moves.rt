@@ -5,7 +5,6 @@ ghost use Rattle.cost.specs.Kinds.{spend_then_moves, tally};
 use crate::priced::{Kind, Priced};
 
 // The sum of the prices; of equal sums, fewer moves come first.
-#[derive(Clone, Copy)]
 pub struct SumThenMoves;
 
 pub type SpendThenMoves = Priced<SumThenMoves>;
