@@ -45,7 +45,7 @@ pub trait Kind {
 pub struct Priced<R> {
     pub amount: u64,
     pub moves: u16,
-    kind: PhantomData<R>,
+    pub kind: PhantomData<R>,
 }
 
 impl<R: Kind> Priced<R> {

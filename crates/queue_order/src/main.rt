@@ -57,7 +57,7 @@ fn show_kind<K: Cost>(
     show_order(rt, &mut Heap::new(memory), costs)
 }
 
-// Prints the bytes of a cost and of an entry in this kind.
+// Prints the bytes of a cost and of an entry in this kind, as told: `size_of` of a type parameter gets no proof.
 fn show_sizes(rt: &HostRuntime, kind: &str, cost: usize, entry: usize) -> io::Result<()> {
     println!(rt; "{kind}, {cost} and {entry}")
 }
