@@ -1,8 +1,8 @@
 -- What plans cost.
-use Rattle.std.proofs.Common.{◌≡◌, ℕ, suc, ◌+◌, ◌-◌, ◌<◌, ◌≤◌, max, ◌⊎◌, List, [], ◌∷◌, ◌++◌, length, get_or, drop, sum, sym, refl, ap, ◌∙◌, subst, inl, inr, ⊎_elim, one-add, arith}
+use Rattle.std.proofs.Common.{◌≡◌, ℕ, suc, ◌+◌, ◌<◌, ◌≤◌, max, ◌⊎◌, List, [], ◌∷◌, ◌++◌, length, sum, sym, refl, ap, ◌∙◌, subst, inl, inr, ⊎_elim, one-add, length-append, arith}
 use Rattle.std.specs.List.{ContainsAt as Has}
-use Rattle.std.proofs.lemmas.Bool.{cases_lt, cases_eq}
-use Rattle.std.proofs.lemmas.List.{at_drop_more}
+use Rattle.std.proofs.lemmas.Bool.{cases_lt}
+use Rattle.std.proofs.Math.Seq.{get_or-append_seam}
 use Rattle.std.proofs.lemmas.List.Sums.{sum_by-cons}
 use Rattle.std.proofs.ByRecursion.{All-weaker, has_get_or, has_append_right}
 use Rattle.cost.specs.Costs.{Arithmetic, NotAfter, cost_of}
@@ -57,24 +57,11 @@ pub peak_is : (ps : List ℕ) → Largest ps (cost_of peak ps)
 peak_is [] = record { above = tt; there = inr (refl, refl) }
 peak_is (p ∷ ps) = largest p ps (cost_of peak ps) (peak_is ps)
 
--- one move more at the front
-pub cost_of_more : (a : Arithmetic) (ps : List ℕ) (i : ℕ) (v x : a.Value) → 0 < i → i ≤ length ps → v ≡ a.joined (a.priced (get_or ps (i - 1) 0)) x → x ≡ cost_of a (drop i ps) → v ≡ cost_of a (drop (i - 1) ps)
-cost_of_more a ps i v x pos le is rest =
-    let e : i ≡ i - 1 + 1 = omega arith in
-    let p = a.priced (get_or ps (i - 1) 0) in
-    is ∙ ap (a.joined p) (rest ∙ ap (λ k. cost_of a (drop k ps)) e) ∙ sym (at_drop_more (cost_of a) ps (i - 1) 0 (omega arith))
-
-pub payable_more : (ps : List ℕ) (i m : ℕ) → ((k : ℕ) → i ≤ k → k < length ps → get_or ps k 0 ≤ m) → get_or ps (i - 1) 0 ≤ m → (k : ℕ) → i - 1 ≤ k → k < length ps → get_or ps k 0 ≤ m
-payable_more ps i m h here k le lt =
+-- a price stands between those before it and those after it
+pub price_refused : (ps before rest : List ℕ) (p : ℕ) (e : Refusal) → length ps ≤ 65535 → ps ≡ before ++ p ∷ rest →
+    ((e ≡ Price) × (1000000000 < p)) ⊎ (65535 < 1 + length rest) → PlanRefused ps e
+price_refused ps before rest p e short is =
+    let long : length ps ≡ length before + (1 + length rest) = rw is (simp length-append (omega arith)) in
     ⊎_elim
-    (λ (e : k ≡ i - 1). rw e here)
-    (λ (ne : k ≡ i - 1 → ⊥). h k (omega arith) lt)
-    (cases_eq k (i - 1))
-
--- the one way in which a plan that is not too long is refused
-pub price_refused : (ps : List ℕ) (e : Refusal) (i n : ℕ) → length ps ≤ 65535 → 0 < i → i ≤ length ps → n + i ≡ length ps →
-    ((e ≡ Price) × (1000000000 < get_or ps (i - 1) 0)) ⊎ (65535 < 1 + n) → PlanRefused ps e
-price_refused ps e i n short pos le is =
-    ⊎_elim
-    (λ h. inr (h.0, short, (i - 1, omega arith, h.1)))
+    (λ h. inr (h.0, short, (length before, omega arith, rw (is, get_or-append_seam before p rest 0) h.1)))
     (λ h. absurd (omega arith))

@@ -2,3 +2,4 @@ pub mod Costs
 pub mod Limits
 pub mod Kinds
 pub mod Plans
+pub mod Spends

@@ -1,64 +1,38 @@
-ghost use Rattle.cost.specs.Limits.{limited};
+ghost use Rattle.std.specs.Prelude.{max};
+ghost use Rattle.std.proofs.Common.{refl, arith};
 ghost use Rattle.cost.specs.Kinds.{peak};
-ghost use Rattle.std.proofs.Common.{rules};
 
-use crate::costs::Cost;
-use crate::limits::{accept_price, add_moves, limit};
-use rows::refusals::Refusal;
+use crate::priced::{Kind, Priced};
 
 // The largest price, 0 for nothing.
-#[derive(Clone, Copy)]
-pub struct Peak {
-    pub amount: u64,
-    pub moves: u16,
-}
+pub struct Highest;
 
-impl Cost for Peak {
+pub type Peak = Priced<Highest>;
+
+impl Kind for Highest {
     ghost arithmetic = { peak };
 
-    ghost value = { λ k. limited k.amount k.moves };
-
-    ghost joins = { λ k. k.moves };
-
-    ghost plain = { λ k. k.amount };
+    ghost meaning = { λ a m. a };
 
     ghost size = { λ v. v };
 
-    ghost counts = { Prim.search rules };
+    ghost both = { max };
 
-    fn nothing() -> Peak {
-        Peak {
-            amount: 0,
-            moves: 0,
-        }
+    fn join_amounts(first: u64, rest: u64) -> u64 {
+        first.max(rest)
     }
 
-    fn price(price: u32) -> Result<Peak, Refusal> {
-        match accept_price(price) {
-            Ok(amount) => Ok(Peak { amount, moves: 1 }),
-            Err(e) => Err(e),
-        }
+    fn comes_before(one: (u64, u16), other: (u64, u16)) -> bool {
+        one.0 < other.0
     }
 
-    fn join(self, rest: Peak) -> Result<Peak, Refusal> {
-        match add_moves(self.moves, rest.moves) {
-            Ok(moves) => Ok(Peak {
-                amount: self.amount().max(rest.amount()),
-                moves,
-            }),
-            Err(e) => Err(e),
-        }
-    }
+    ghost means_nothing = { refl };
 
-    fn moves(self) -> u16 {
-        self.moves
-    }
+    ghost means_price = { λ p. refl };
 
-    fn precedes(self, other: Peak) -> bool {
-        self.amount() < other.amount()
-    }
+    ghost means_join = { λ a m b n. refl };
 
-    fn amount(self) -> u64 {
-        limit(self.amount, self.moves)
-    }
+    ghost grows = { λ a b. Prim.omega arith };
+
+    ghost sized = { λ a m. refl };
 }

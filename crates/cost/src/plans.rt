@@ -11,15 +11,12 @@ use rows::refusals::Refusal;
 pub fn plan_cost<K: Cost>(prices: &[u32]) -> Result<K, Refusal>
     ensures { MatchResult result (λ k. (length prices.now ≤ 65535) × Payable prices.now × (K.Cost.value k ≡ cost_of K.Cost.arithmetic prices.now) × (K.Cost.joins k ≡ length prices.now) × Within (K.Cost.plain k) (K.Cost.joins k)) (λ e. PlanRefused prices.now e) }
 {
-    if prices.len() > 65535 {
+    if prices.len() > usize::from(u16::MAX) {
         return Err(Refusal::Long);
     }
     let mut cost = K::nothing();
-    for i in (0..prices.len()).rev() {
-        match prepend(prices[i], cost) {
-            Ok(joined) => cost = joined,
-            Err(e) => return Err(e),
-        }
+    for price in prices.iter().rev() {
+        cost = prepend(*price, cost)?;
     }
     Ok(cost)
 }
@@ -28,10 +25,7 @@ pub fn plan_cost<K: Cost>(prices: &[u32]) -> Result<K, Refusal>
 fn prepend<K: Cost>(price: u32, rest: K) -> Result<K, Refusal>
     ensures { MatchResult result (λ k. (price ≤ 1000000000) × (K.Cost.value k ≡ K.Cost.arithmetic.joined (K.Cost.arithmetic.priced price) (K.Cost.value rest)) × (K.Cost.joins k ≡ 1 + K.Cost.joins rest) × Within (K.Cost.plain k) (K.Cost.joins k)) (λ e. ((e ≡ Refusal.Price) × (1000000000 < price)) ⊎ (65535 < 1 + K.Cost.joins rest)) }
 {
-    match K::price(price) {
-        Ok(first) => first.join(rest),
-        Err(e) => Err(e),
-    }
+    K::price(price)?.join(rest)
 }
 
 // Holds the proof of what joining keeps.

@@ -1,64 +1,38 @@
-ghost use Rattle.cost.specs.Limits.{limited};
+ghost use Rattle.std.specs.Prelude.{◌+◌};
+ghost use Rattle.std.proofs.Common.{refl, arith};
 ghost use Rattle.cost.specs.Kinds.{spend};
-ghost use Rattle.std.proofs.Common.{rules};
 
-use crate::costs::Cost;
-use crate::limits::{accept_price, add_moves, limit};
-use rows::refusals::Refusal;
+use crate::priced::{Kind, Priced};
 
 // The sum of the prices.
-#[derive(Clone, Copy)]
-pub struct Spend {
-    pub amount: u64,
-    pub moves: u16,
-}
+pub struct Sum;
 
-impl Cost for Spend {
+pub type Spend = Priced<Sum>;
+
+impl Kind for Sum {
     ghost arithmetic = { spend };
 
-    ghost value = { λ k. limited k.amount k.moves };
-
-    ghost joins = { λ k. k.moves };
-
-    ghost plain = { λ k. k.amount };
+    ghost meaning = { λ a m. a };
 
     ghost size = { λ v. v };
 
-    ghost counts = { Prim.search rules };
+    ghost both = { ◌+◌ };
 
-    fn nothing() -> Spend {
-        Spend {
-            amount: 0,
-            moves: 0,
-        }
+    fn join_amounts(first: u64, rest: u64) -> u64 {
+        first + rest
     }
 
-    fn price(price: u32) -> Result<Spend, Refusal> {
-        match accept_price(price) {
-            Ok(amount) => Ok(Spend { amount, moves: 1 }),
-            Err(e) => Err(e),
-        }
+    fn comes_before(one: (u64, u16), other: (u64, u16)) -> bool {
+        one.0 < other.0
     }
 
-    fn join(self, rest: Spend) -> Result<Spend, Refusal> {
-        match add_moves(self.moves, rest.moves) {
-            Ok(moves) => Ok(Spend {
-                amount: self.amount() + rest.amount(),
-                moves,
-            }),
-            Err(e) => Err(e),
-        }
-    }
+    ghost means_nothing = { refl };
 
-    fn moves(self) -> u16 {
-        self.moves
-    }
+    ghost means_price = { λ p. refl };
 
-    fn precedes(self, other: Spend) -> bool {
-        self.amount() < other.amount()
-    }
+    ghost means_join = { λ a m b n. refl };
 
-    fn amount(self) -> u64 {
-        limit(self.amount, self.moves)
-    }
+    ghost grows = { λ a b. Prim.omega arith };
+
+    ghost sized = { λ a m. refl };
 }

@@ -1,66 +1,38 @@
-ghost use Rattle.cost.specs.Limits.{limited};
+ghost use Rattle.std.specs.Prelude.{◌+◌};
+ghost use Rattle.std.proofs.Common.{refl, arith};
 ghost use Rattle.cost.specs.Kinds.{spend_then_moves, tally};
-ghost use Rattle.std.proofs.Common.{rules};
 
-use crate::costs::Cost;
-use crate::limits::{accept_price, add_moves, limit};
-use rows::refusals::Refusal;
+use crate::priced::{Kind, Priced};
 
 // The sum of the prices; of equal sums, fewer moves come first.
-#[derive(Clone, Copy)]
-pub struct SpendThenMoves {
-    pub amount: u64,
-    pub moves: u16,
-}
+pub struct SumThenMoves;
 
-impl Cost for SpendThenMoves {
+pub type SpendThenMoves = Priced<SumThenMoves>;
+
+impl Kind for SumThenMoves {
     ghost arithmetic = { spend_then_moves };
 
-    ghost value = { λ k. tally (limited k.amount k.moves) k.moves };
-
-    ghost joins = { λ k. k.moves };
-
-    ghost plain = { λ k. k.amount };
+    ghost meaning = { tally };
 
     ghost size = { λ v. v.sum };
 
-    ghost counts = { Prim.search rules };
+    ghost both = { ◌+◌ };
 
-    fn nothing() -> SpendThenMoves {
-        SpendThenMoves {
-            amount: 0,
-            moves: 0,
-        }
+    fn join_amounts(first: u64, rest: u64) -> u64 {
+        first + rest
     }
 
-    fn price(price: u32) -> Result<SpendThenMoves, Refusal> {
-        match accept_price(price) {
-            Ok(amount) => Ok(SpendThenMoves { amount, moves: 1 }),
-            Err(e) => Err(e),
-        }
+    fn comes_before(one: (u64, u16), other: (u64, u16)) -> bool {
+        one < other
     }
 
-    fn join(self, rest: SpendThenMoves) -> Result<SpendThenMoves, Refusal> {
-        match add_moves(self.moves, rest.moves) {
-            Ok(moves) => Ok(SpendThenMoves {
-                amount: self.amount() + rest.amount(),
-                moves,
-            }),
-            Err(e) => Err(e),
-        }
-    }
+    ghost means_nothing = { refl };
 
-    fn moves(self) -> u16 {
-        self.moves
-    }
+    ghost means_price = { λ p. refl };
 
-    fn precedes(self, other: SpendThenMoves) -> bool {
-        let mine = self.amount();
-        let theirs = other.amount();
-        mine < theirs || mine == theirs && self.moves < other.moves
-    }
+    ghost means_join = { λ a m b n. refl };
 
-    fn amount(self) -> u64 {
-        limit(self.amount, self.moves)
-    }
+    ghost grows = { λ a b. Prim.omega arith };
+
+    ghost sized = { λ a m. refl };
 }

@@ -1,7 +1,9 @@
 -- The heap of a row of entries.
-use Rattle.std.proofs.Common.{◌≡◌, ℕ, ◌+◌, ◌-◌, ◌*◌, ◌/◌, ◌<◌, ◌≤◌, true, false, ◌≢◌, List, length, get_or, take, set, sym, ap, ◌∙◌, subst, ⊎_elim, arith}
+use Rattle.std.proofs.Common.{◌≡◌, ℕ, ◌+◌, ◌-◌, ◌*◌, ◌/◌, ◌<◌, ◌≤◌, true, false, List, [], ◌∷◌, ◌++◌, length, get_or, set, sym, ap, ◌∙◌, subst, ⊎_elim, arith}
 use Rattle.std.specs.List.Sorted.{IsPermutation}
-use Rattle.std.proofs.lemmas.List.{length-take-le, get_or-set_other}
+use Rattle.std.specs.List.{swap, swap_remove}
+use Rattle.std.proofs.lemmas.List.{length-take-le, length-set, length_push, get_or-take, get_or-set_other, get_or_append_left}
+use Rattle.std.proofs.lemmas.List.Edits.{length-swap, swapped_from_swap}
 use Rattle.std.proofs.lemmas.List.Sorted.{IsPermutation-trans, IsPermutation-swap}
 use Rattle.cost.specs.declared.costs.Cost as cost
 use Rattle.queue.specs.declared.entries.Entry.{Entry}
@@ -9,8 +11,7 @@ use Rattle.queue.specs.Orders.{goes, Leads, Least}
 use Rattle.heap.specs.Heaps.{Heaped, Rooted, Lower}
 use Rattle.std.proofs.lemmas.Bool.{cases_eq}
 use Rattle.queue.proofs.Order.{goes_refl, goes_asym, goes_trans}
-use Rattle.queue.proofs.Fronts.{take_exchanged}
-use Rattle.queue.proofs.Scans.{some_of, leads_least}
+use Rattle.queue.proofs.Scans.{leads_least}
 use Rattle.heap.proofs.Sifts.{UpTo, DownTo, up_step, up_done, down_step, down_done, root_first}
 
 module _ {K : Type 0} (C : cost.Ghosts K) where
@@ -28,33 +29,28 @@ module _ {K : Type 0} (C : cost.Ghosts K) where
   abbrev pub Sinking : List (Entry K) → ℕ → ℕ → Type 0
   Sinking xs n i = (d : Entry K) → DownTo Not_after n (at xs d) i
 
--- ys is xs with places a and b exchanged
-abbrev pub Exchanged : {X : Type 0} → List X → List X → ℕ → ℕ → Type 0
-Exchanged {X} xs ys a b =
-    ((d : X) → get_or ys a d ≡ get_or xs b d) × ((d : X) → get_or ys b d ≡ get_or xs a d)
-    × ((k : ℕ) (d : X) → (k ≡ a → ⊥) → (k ≡ b → ⊥) → get_or ys k d ≡ get_or xs k d)
-    × ((d : X) → ys ≡ set (set xs a (get_or xs b d)) b (get_or xs a d))
+pub length_exchanged : {X : Type 0} (xs ys : List X) (a b : ℕ) → ys ≡ swap xs a b → length ys ≡ length xs
+length_exchanged xs ys a b e = ap length e ∙ length-swap xs a b
 
-pub exchanged_shuffles : {X : Type 0} (zs xs ys : List X) (n a b : ℕ) → n ≤ length xs → a < n → b < n → Exchanged xs ys a b → IsPermutation (take n zs) (take n xs) → IsPermutation (take n zs) (take n ys)
-exchanged_shuffles zs xs ys n a b h ha hb ex sh =
-    let d = some_of xs a (omega arith) in
-    let long = length-take-le n xs h in
-    IsPermutation-trans _ _ _ sh (IsPermutation-swap (take n xs) (take n ys) a b (omega arith) (omega arith) (ap (take n) (ex.3 d) ∙ take_exchanged xs n a b d h ha hb))
+-- two places are exchanged once more
+pub shuffled_more : {X : Type 0} (zs xs ys : List X) (a b : ℕ) → a < length xs → b < length xs → ys ≡ swap xs a b → IsPermutation zs xs → IsPermutation zs ys
+shuffled_more zs xs ys a b ha hb e sh = IsPermutation-trans _ _ _ sh (IsPermutation-swap xs ys a b ha hb e)
 
 module _ {K : Type 0} (C : cost.Ghosts K) where
   tr : (a b c : Entry K) → Not_after C a b → Not_after C b c → Not_after C a c
   tr a b c p q = goes_trans C a b c p q
 
-  pub raising_start : (xs : List (Entry K)) (m : ℕ) → Heaped C xs m → Raising C xs (m + 1) m
-  raising_start xs m h d = record {
+  pub raising_start : (xs : List (Entry K)) → Heaped C xs (length xs - 1) → Raising C xs (length xs) (length xs - 1)
+  raising_start xs h d = record {
     others = λ j hj jn ne. h j d hj (omega arith);
     below = λ j hj jn e pos. absurd (omega arith);
   }
 
-  pub raising_step : (xs ys : List (Entry K)) (n i : ℕ) → 0 < i → i < n → ((d : Entry K) → true ≡ goes C (get_or xs i d) (get_or xs ((i - 1) / 2) d)) → Exchanged xs ys i ((i - 1) / 2) → Raising C xs n i → Raising C ys n ((i - 1) / 2)
-  raising_step xs ys n i pos lt go ex u d =
-      up_step (Not_after C) tr n (at C xs d) (at C ys d) i pos lt (goes_asym C _ _ (sym (go d)))
-      (ex.0 d, ex.1 d, λ m p q. ex.2 m d p q) (u d)
+  pub raising_step : (xs ys : List (Entry K)) (i : ℕ) → 0 < i → i < length xs → ((d : Entry K) → true ≡ goes C (get_or xs i d) (get_or xs ((i - 1) / 2) d)) → ys ≡ swap xs i ((i - 1) / 2) → Raising C xs (length xs) i → Raising C ys (length ys) ((i - 1) / 2)
+  raising_step xs ys i pos lt go e u =
+      rw (length_exchanged xs ys i ((i - 1) / 2) e)
+      (λ d. up_step (Not_after C) tr (length xs) (at C xs d) (at C ys d) i pos lt (goes_asym C _ _ (sym (go d)))
+      (swapped_from_swap xs ys i ((i - 1) / 2) d lt (omega arith) e) (u d))
 
   pub raising_done : (xs : List (Entry K)) (n i : ℕ) → Raising C xs n i → (0 < i → (d : Entry K) → goes C (get_or xs i d) (get_or xs ((i - 1) / 2) d) ≡ false) → Heaped C xs n
   raising_done xs n i u here j d hj jn = up_done (Not_after C) tr n (at C xs d) i (u d) (λ pos. here pos d) j hj jn
@@ -99,11 +95,14 @@ module _ {K : Type 0} (C : cost.Ghosts K) where
     below = λ j hj jn e pos. absurd (omega arith);
   }
 
-  pub sinking_step : (xs ys : List (Entry K)) (n i c : ℕ) → Lower C xs n i c → ((d : Entry K) → true ≡ goes C (get_or xs c d) (get_or xs i d)) → Exchanged xs ys i c → Sinking C xs n i → Sinking C ys n c
-  sinking_step xs ys n i c low go ex u d =
-      down_step (Not_after C) tr n (at C xs d) (at C ys d) i c low.pos low.below low.child (goes_asym C _ _ (sym (go d)))
+  pub sinking_step : (xs ys : List (Entry K)) (i c : ℕ) → Lower C xs (length xs) i c → ((d : Entry K) → true ≡ goes C (get_or xs c d) (get_or xs i d)) → ys ≡ swap xs i c → Sinking C xs (length xs) i → Sinking C ys (length ys) c
+  sinking_step xs ys i c low go e u =
+      let hc = low.below in
+      let ci = low.child in
+      rw (length_exchanged xs ys i c e)
+      (λ d. down_step (Not_after C) tr (length xs) (at C xs d) (at C ys d) i c low.pos low.below low.child (goes_asym C _ _ (sym (go d)))
       (λ s hs sn e. low.least s d hs sn e)
-      (ex.0 d, ex.1 d, λ m p q. ex.2 m d p q) (u d)
+      (swapped_from_swap xs ys i c d (omega arith) hc e) (u d))
 
   pub sinking_done : (xs : List (Entry K)) (n i c : ℕ) → Lower C xs n i c → ((d : Entry K) → false ≡ goes C (get_or xs c d) (get_or xs i d)) → Sinking C xs n i → Heaped C xs n
   sinking_done xs n i c low go u j d hj jn =
@@ -113,21 +112,22 @@ module _ {K : Type 0} (C : cost.Ghosts K) where
   pub sinking_end : (xs : List (Entry K)) (n i : ℕ) → n / 2 ≤ i → Sinking C xs n i → Heaped C xs n
   sinking_end xs n i h u j d hj jn = down_done (Not_after C) tr n (at C xs d) i (u d) (λ s hs sn e. absurd (omega arith)) j hj jn
 
-  pub rooted_from : (xs : List (Entry K)) (n : ℕ) (y : Entry K) → Heaped C xs n → Rooted C (set xs 0 y) (n - 1)
-  rooted_from xs n y h j d hu jn =
-      let nj : j ≢ 0 = λ e. omega arith in
-      let nu : (j - 1) / 2 ≢ 0 = λ e. omega arith in
-      rw (get_or-set_other xs 0 j y d nj, get_or-set_other xs 0 ((j - 1) / 2) y d nu) (h j d (omega arith) (omega arith))
+  -- the root is taken out, and the last moves there
+  pub rooted_from : (xs ys : List (Entry K)) (x : Entry K) → ys ≡ swap_remove xs 0 x → Heaped C xs (length xs) → Rooted C ys (length ys)
+  rooted_from xs ys x e h j d hu jn =
+      let n = length xs - 1 in
+      let y = get_or xs n x in
+      let long : length ys ≡ n = ap length e ∙ length-take-le n (set xs 0 y) (simp length-set (omega arith)) in
+      let read : (k : ℕ) → 0 < k → k < n → get_or ys k d ≡ get_or xs k d =
+      λ k hk kn. ap (λ l. get_or l k d) e ∙ get_or-take n (set xs 0 y) k d kn ∙ get_or-set_other xs 0 k y d (λ z. omega arith) in
+      rw (read j (omega arith) (omega arith), read ((j - 1) / 2) hu (omega arith)) (h j d (omega arith) (omega arith))
 
-  pub root_least : (xs : List (Entry K)) (n : ℕ) (x : Entry K) → 0 < n → n ≤ length xs → x ≡ get_or xs 0 x → Heaped C xs n → Least C (take n xs) x
-  root_least xs n x pos h rx hp = rw rx (leads_least C xs n 0 x h (heaped_leads xs n pos hp))
+  pub root_least : (xs : List (Entry K)) (x : Entry K) → 0 < length xs → x ≡ get_or xs 0 x → Heaped C xs (length xs) → Least C xs x
+  root_least xs x pos r h = leads_least C xs 0 x (heaped_leads xs (length xs) pos h) r
 
-  -- a heap of the first n places, at the count that a row holds
-  pub heaped_at : (xs : List (Entry K)) (n m : ℕ) → n ≡ m → Heaped C xs n → Heaped C xs m
-  heaped_at xs n m e h = subst (Heaped C xs) e h
-
-  pub heaped_set : (xs : List (Entry K)) (n : ℕ) (y : Entry K) → Heaped C xs n → Heaped C (set xs n y) n
-  heaped_set xs n y h j d hj jn =
-      let nj : j ≢ n = λ e. omega arith in
-      let nu : (j - 1) / 2 ≢ n = λ e. omega arith in
-      rw (get_or-set_other xs n j y d nj, get_or-set_other xs n ((j - 1) / 2) y d nu) (h j d hj jn)
+  -- one entry more at the end
+  pub heaped_push : (xs ys : List (Entry K)) (x : Entry K) → ys ≡ xs ++ x ∷ [] → Heaped C xs (length xs) → Heaped C ys (length ys - 1)
+  heaped_push xs ys x e h j d hj jn =
+      let long : length ys ≡ length xs + 1 = ap length e ∙ length_push xs x in
+      let read : (k : ℕ) → k < length xs → get_or ys k d ≡ get_or xs k d = λ k kn. ap (λ l. get_or l k d) e ∙ get_or_append_left xs (x ∷ []) d k kn in
+      rw (read j (omega arith), read ((j - 1) / 2) (omega arith)) (h j d hj (omega arith))

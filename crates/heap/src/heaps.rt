@@ -1,22 +1,23 @@
-ghost use Rattle.std.specs.Prelude.{◌≡◌, ◌+◌, ◌-◌, ◌/◌, ◌<◌, ◌≤◌, min, [], length, take, slice_index_or};
+ghost use Rattle.std.specs.Prelude.{◌≡◌, ◌-◌, ◌/◌, ◌<◌, min, [], length, slice_index_or};
 ghost use Rattle.std.specs.List.Sorted.{IsPermutation};
 ghost use Rattle.queue.specs.declared.entries.Entry.{Entry};
-ghost use Rattle.queue.specs.Orders.{Least, Names, Added, goes};
-ghost use Rattle.queue.specs.Places.{used, front_fits};
+ghost use Rattle.queue.specs.Orders.{goes};
+ghost use Rattle.queue.specs.Places.{room, front_fits};
+ghost use Rattle.queue.specs.Held.{held};
 ghost use Rattle.heap.specs.Heaps.{Heaped, Rooted, Lower, empty_heaped};
 ghost use Rattle.heap.specs.Makes.{heap_entries, heap_room};
 
 use cost::costs::Cost;
 use queue::entries::Entry;
-use queue::places::{goes_before, in_use};
+use queue::places::goes_before;
 use queue::queues::Queue;
+use queue::waiting::Waiting;
 use rows::refusals::Refusal;
 
 // A queue as a binary heap: put and take compare O(log n) entries, least none.
 #[derive(Drop)]
 pub struct Heap<'a, K> {
-    entries: &'a mut [Entry<K>],
-    count: usize,
+    waiting: Waiting<'a, Entry<K>>,
 }
 
 impl<'a, K: Cost> Heap<'a, K> {
@@ -24,10 +25,12 @@ impl<'a, K: Cost> Heap<'a, K> {
     pub fn new(entries: &'a mut [Entry<K>]) -> Heap<'a, K>
         ensures empty { heap_entries result ≡ [] }
         ensures room { heap_room result ≡ min (length entries.old) 65535 }
-        ensures same { result.entries.now ≡ entries.old }
-        ensures lent { result.entries.ghost_name ≡ entries.entry.ghost_name }
+        ensures same { result.waiting.places.now ≡ entries.old }
+        ensures lent { result.waiting.places.ghost_name ≡ entries.entry.ghost_name }
     {
-        Heap { entries, count: 0 }
+        Heap {
+            waiting: Waiting::new(entries),
+        }
     }
 }
 
@@ -36,50 +39,40 @@ impl<'a, K: Cost> Queue<K> for Heap<'a, K> {
 
     ghost room = { heap_room };
 
-    ghost ordered = { λ q. Heaped K.Cost q.entries.now (used q.count (length q.entries.now)) };
+    ghost ordered = { λ q. Heaped K.Cost (heap_entries q) (length (heap_entries q)) };
 
-    ghost empty = { λ q e. empty_heaped K.Cost q.count q.entries.now e };
+    ghost empty = { λ q e. empty_heaped K.Cost (heap_entries q) e };
 
-    ghost fits = { λ q. front_fits q.count q.entries.now };
+    ghost fits = { λ q. front_fits q.waiting.count q.waiting.places.now };
 
-    ghost lent = { λ q. q.entries.ghost_name };
+    ghost lent = { λ q. q.waiting.places.ghost_name };
 
     fn put(&mut self, cost: K, number: u16) -> Result<(), Refusal> {
-        let places = self.entries.len();
-        let at = in_use(self.count, places);
-        if at == places || at == 65535 {
-            return Err(Refusal::Full);
-        }
-        self.entries[at] = Entry { cost, number };
-        sift_up(self.entries, at);
-        self.count = at + 1;
+        self.waiting.push(Entry { cost, number })?;
+        sift_up(&mut self.waiting);
         Ok(())
     }
 
     fn least(&self) -> Option<u16> {
-        let count = in_use(self.count, self.entries.len());
-        if count == 0 {
-            return None;
-        }
-        Some(root_number(self.entries, count))
+        let root = self.waiting.as_slice().first()?;
+        Some(root.number)
     }
 
     fn take(&mut self) -> Option<Entry<K>> {
-        let count = in_use(self.count, self.entries.len());
-        if count == 0 {
+        if self.waiting.len() == 0 {
             return None;
         }
-        let taken = take_root(self.entries, count);
-        self.count = count - 1;
-        Some(taken)
+        let root = self.waiting.swap_remove(0);
+        sift_down(&mut self.waiting);
+        Some(root)
     }
 
     fn count(&self) -> usize {
-        in_use(self.count, self.entries.len())
+        self.waiting.len()
     }
 
     fn capacity(&self) -> usize {
-        self.entries.len().min(65535)
+        self.waiting.capacity()
     }
 }
 
@@ -92,31 +85,32 @@ fn ahead<K: Cost>(row: &[Entry<K>], a: usize, b: usize) -> bool
     goes_before(row[a], row[b])
 }
 
-// Moves the entry at place `last` up to where it belongs.
-fn sift_up<K: Cost>(row: &mut [Entry<K>], last: usize)
-    requires { last < length row.old }
-    ensures same { IsPermutation (take (last + 1) row.old) (take (last + 1) row.new) }
-    ensures heaped { Heaped K.Cost row.old last → Heaped K.Cost row.new (last + 1) }
+// Moves the last entry up to where it belongs.
+fn sift_up<K: Cost>(heap: &mut Waiting<Entry<K>>)
+    requires { 0 < length (held heap.old) }
+    ensures lent { heap.new.places.ghost_name ≡ heap.old.places.ghost_name }
+    ensures room { room heap.new.places.now ≡ room heap.old.places.now }
+    ensures same { IsPermutation (held heap.old) (held heap.new) }
+    ensures heaped { Heaped K.Cost (held heap.old) (length (held heap.old) - 1) → Heaped K.Cost (held heap.new) (length (held heap.new)) }
 {
-    let mut at = last;
+    let mut at = heap.len() - 1;
     while at > 0 {
         let up = (at - 1) / 2;
-        if !ahead(row, at, up) {
+        if !ahead(heap.as_slice(), at, up) {
             return;
         }
-        row.swap(at, up);
+        heap.swap(at, up);
         at = up;
     }
 }
 
 // The place right below `at` whose entry comes first.
-fn lower<K: Cost>(row: &[Entry<K>], at: usize, count: usize) -> usize
-    requires low { at < count / 2 }
-    requires within { count ≤ length row.now }
-    ensures { Lower K.Cost row.now count at result }
+fn lower<K: Cost>(row: &[Entry<K>], at: usize) -> usize
+    requires { at < length row.now / 2 }
+    ensures { Lower K.Cost row.now (length row.now) at result }
 {
     let left = 2 * at + 1;
-    if left + 1 < count && ahead(row, left + 1, left) {
+    if left + 1 < row.len() && ahead(row, left + 1, left) {
         left + 1
     } else {
         left
@@ -124,41 +118,19 @@ fn lower<K: Cost>(row: &[Entry<K>], at: usize, count: usize) -> usize
 }
 
 // Moves the entry at place 0 down to where it belongs.
-fn sift_down<K: Cost>(row: &mut [Entry<K>], count: usize)
-    requires { count ≤ length row.old }
-    ensures same { IsPermutation (take count row.old) (take count row.new) }
-    ensures heaped { Rooted K.Cost row.old count → Heaped K.Cost row.new count }
+fn sift_down<K: Cost>(heap: &mut Waiting<Entry<K>>)
+    ensures lent { heap.new.places.ghost_name ≡ heap.old.places.ghost_name }
+    ensures room { room heap.new.places.now ≡ room heap.old.places.now }
+    ensures same { IsPermutation (held heap.old) (held heap.new) }
+    ensures heaped { Rooted K.Cost (held heap.old) (length (held heap.old)) → Heaped K.Cost (held heap.new) (length (held heap.new)) }
 {
     let mut at = 0;
-    while at < count / 2 {
-        let child = lower(row, at, count);
-        if !ahead(row, child, at) {
+    while at < heap.len() / 2 {
+        let child = lower(heap.as_slice(), at);
+        if !ahead(heap.as_slice(), child, at) {
             return;
         }
-        row.swap(at, child);
+        heap.swap(at, child);
         at = child;
     }
-}
-
-// The number of the entry at place 0.
-fn root_number<K: Cost>(row: &[Entry<K>], count: usize) -> u16
-    requires some { 0 < count }
-    requires within { count ≤ length row.now }
-    ensures { Heaped K.Cost row.now count → Names K.Cost (take count row.now) result }
-{
-    row[0].number
-}
-
-// Takes out the entry at place 0, and moves the last to where it belongs.
-fn take_root<K: Cost>(row: &mut [Entry<K>], count: usize) -> Entry<K>
-    requires some { 0 < count }
-    requires within { count ≤ length row.old }
-    ensures least { Heaped K.Cost row.old count → Least K.Cost (take count row.old) result }
-    ensures after { Added (take (count - 1) row.new) result (take count row.old) }
-    ensures heaped { Heaped K.Cost row.old count → Heaped K.Cost row.new (count - 1) }
-{
-    let taken = row[0];
-    row[0] = row[count - 1];
-    sift_down(row, count - 1);
-    taken
 }

@@ -1,11 +1,10 @@
 -- Entries that are put, or taken, one after the other.
-use Rattle.std.proofs.Common.{◌≡◌, ℕ, suc, ◌+◌, ◌<◌, ◌≤◌, min, false, List, [], ◌∷◌, ◌++◌, length, get_or, take, drop, set, Ok, Err, Result, sym, refl, ap, ◌∙◌, subst, ⊎_elim, append_assoc, add-zero, arith, MatchResult}
+use Rattle.std.proofs.Common.{◌≡◌, ℕ, suc, ◌+◌, ◌<◌, false, List, [], ◌∷◌, ◌++◌, length, get_or, take, drop, set, Ok, Err, Result, sym, refl, ap, ◌∙◌, subst, append_assoc, add-zero, arith, MatchResult}
 use Rattle.std.specs.List.Sorted.{IsPermutation}
 use Rattle.std.specs.List.{AllByRecursion}
 use Rattle.std.proofs.ByRecursion.{All-push, All-weaker, all-has, all_has_itself, all_shuffled}
-use Rattle.std.proofs.lemmas.List.{take_more, length-take-le, map_push, drop-drop, drop-set-lt, take_all}
-use Rattle.std.proofs.lemmas.Bool.{cases_lt}
-use Rattle.std.proofs.lemmas.List.Sorted.{IsPermutation-refl, IsPermutation-sym, IsPermutation-trans, IsPermutation-cons, IsPermutation-swap}
+use Rattle.std.proofs.lemmas.List.{take_more, length-take-le, map_push, drop-drop, drop-set-lt}
+use Rattle.std.proofs.lemmas.List.Sorted.{IsPermutation-refl, IsPermutation-sym, IsPermutation-trans, IsPermutation-cons, IsPermutation-middle, IsPermutation-append_right}
 use Rattle.cost.specs.declared.costs.Cost as cost
 use Rattle.queue.specs.declared.entries.Entry.{Entry}
 use Rattle.queue.specs.Orders.{goes, Least, Added}
@@ -15,18 +14,6 @@ use Rattle.queue.specs.Batches.{numbered, InOrder, Drained}
 pub of_ok : {T E : Type 0} (r : Result T E) (P P' : T → Type 0) (Q Q' : E → Type 0) → MatchResult r P Q → MatchResult r P' Q' → ((e : E) → Q e → ⊥) → (t : T) × P t × P' t
 of_ok (Ok t) P P' Q Q' h h' none = (t, h, h')
 of_ok (Err e) P P' Q Q' h h' none = absurd (none e h)
-
-swap_two : {X : Type 0} (a b : X) (xs : List X) → IsPermutation (a ∷ b ∷ xs) (b ∷ a ∷ xs)
-swap_two a b xs = IsPermutation-swap (a ∷ b ∷ xs) (b ∷ a ∷ xs) 0 1 (omega arith) (omega arith) refl
-
--- an element in the midst, moved to the front
-to_front : {X : Type 0} (ns xs : List X) (e : X) → IsPermutation (ns ++ e ∷ xs) (e ∷ (ns ++ xs))
-to_front [] xs e = IsPermutation-refl (e ∷ xs)
-to_front (a ∷ ns) xs e = IsPermutation-trans _ _ _ (IsPermutation-cons a _ _ (to_front ns xs e)) (swap_two a e (ns ++ xs))
-
-after : {X : Type 0} (os xs ys : List X) → IsPermutation xs ys → IsPermutation (os ++ xs) (os ++ ys)
-after [] xs ys h = h
-after (o ∷ os) xs ys h = IsPermutation-cons o _ _ (after os xs ys h)
 
 numbered_push : {K : Type 0} (ks : List K) (k : K) (i n : ℕ) → n ≡ i + length ks → numbered (ks ++ k ∷ []) i ≡ numbered ks i ++ record { cost = k; number = n } ∷ []
 numbered_push {K} [] k i n e =
@@ -43,14 +30,7 @@ put_more {K} xs ks n ys zs k h is so add =
     let split : numbered (take (n + 1) ks) 0 ++ xs ≡ N ++ e ∷ xs =
     ap (λ l. numbered l 0 ++ xs) pushed ∙ ap (λ l. l ++ xs) (numbered_push (take n ks) k 0 n long) ∙ append_assoc N (e ∷ []) xs in
     subst (λ (l : List (Entry K)). IsPermutation l zs) (sym split)
-    (IsPermutation-trans _ _ _ (to_front N xs e) (IsPermutation-trans _ _ _ (IsPermutation-cons e _ _ so) add))
-
-pub take_min : {X : Type 0} (xs : List X) (n m : ℕ) → m ≡ min (length xs) n → take m xs ≡ take n xs
-take_min xs n m is =
-    ⊎_elim
-    (λ (h : n < length xs). let e : m ≡ n = omega arith in ap (λ k. take k xs) e)
-    (λ (h : length xs ≤ n). take_all m xs (omega arith) ∙ sym (take_all n xs h))
-    (cases_lt n (length xs))
+    (IsPermutation-trans _ _ _ (IsPermutation-middle N e xs) (IsPermutation-trans _ _ _ (IsPermutation-cons e _ _ so) add))
 
 -- one element of a slice is written, and those after it are as before
 pub rest_more : {X : Type 0} (xs ys : List X) (i : ℕ) (x : X) → drop i ys ≡ drop i xs → drop (i + 1) (set ys i x) ≡ drop (i + 1) xs
@@ -78,7 +58,7 @@ module _ {K : Type 0} (C : cost.Ghosts K) where
         later = All-push (λ e. AllByRecursion (λ y. goes C y e ≡ false) zs) out x
             (All-weaker _ _ (λ e a. less (λ y. goes C y e ≡ false) x ys zs add a) out d.later)
             (less (λ y. goes C y x ≡ false) x ys zs add (All-weaker _ _ (λ y h. l.least y h) ys (all_has_itself ys)));
-        same = subst (λ (l : List (Entry K)). IsPermutation l xs) (sym (append_assoc out (x ∷ []) zs)) (IsPermutation-trans _ _ _ (after out (x ∷ zs) ys add) d.same);
+        same = subst (λ (l : List (Entry K)). IsPermutation l xs) (sym (append_assoc out (x ∷ []) zs)) (IsPermutation-trans _ _ _ (IsPermutation-append_right out (x ∷ zs) ys add) d.same);
       }
 
   pub drained_from : (xs ws : List (Entry K)) (ns : List ℕ) (ys : List (Entry K)) → IsPermutation ws xs → Drained C xs ns ys → Drained C ws ns ys

@@ -15,8 +15,8 @@ pub fn put_all<K: Cost, Q: Queue<K>>(q: &mut Q, costs: &[K]) -> usize
 {
     let free = q.capacity() - q.count();
     let n = costs.len().min(free);
-    for i in 0..n {
-        let _ = q.put(costs[i], i as u16);
+    for (i, cost) in costs[..n].iter().enumerate() {
+        let _ = q.put(*cost, i as u16);
     }
     n
 }
@@ -30,14 +30,13 @@ pub fn take_all<K: Cost, Q: Queue<K>>(q: &mut Q, numbers: &mut [u16]) -> usize
     ensures ordered { Q.ordered q.old → Q.ordered q.new }
     ensures order { Q.ordered q.old → Drained K.Cost (Q.entries q.old) (take result numbers.new) (Q.entries q.new) }
 {
-    let n = q.count().min(numbers.len());
-    for i in 0..n {
+    for (i, number) in numbers.iter_mut().enumerate() {
         match q.take() {
-            Some(e) => numbers[i] = e.number,
+            Some(e) => *number = e.number,
             None => return i,
         }
     }
-    n
+    numbers.len()
 }
 
 // The order in which the costs, each under the number of its place, come out of a queue, with what it holds already.

@@ -5,3 +5,4 @@ pub mod entries;
 pub mod places;
 pub mod queues;
 pub mod scanned_row;
+pub mod waiting;

@@ -14,23 +14,13 @@ use queue::scanned_row::ScannedRow;
 use rows::refusals::Refusal;
 use std::io;
 
-// The prices of a plan's moves; the last one is the empty plan.
-fn plan(number: usize) -> &'static [u32] {
-    match number {
-        0 => &[30, 10],
-        1 => &[40],
-        2 => &[20, 20],
-        3 => &[5, 35, 0],
-        4 => &[40],
-        5 => &[41],
-        _ => &[],
-    }
-}
+// The prices of each plan's moves; the last one is the empty plan.
+const PLANS: [&[u32]; 7] = [&[30, 10], &[40], &[20, 20], &[5, 35, 0], &[40], &[41], &[]];
 
 // What the plans cost in this kind.
 fn plan_costs<K: Cost>(costs: &mut [K]) -> Result<(), Refusal> {
-    for i in 0..costs.len() {
-        costs[i] = plan_cost(plan(i))?;
+    for (cost, prices) in costs.iter_mut().zip(PLANS) {
+        *cost = plan_cost(prices)?;
     }
     Ok(())
 }
@@ -67,55 +57,30 @@ fn show_kind<K: Cost>(
     show_order(rt, &mut Heap::new(memory), costs)
 }
 
-// Prints the bytes of a cost and of an entry in each kind.
-fn show_sizes(rt: &HostRuntime) -> io::Result<()> {
-    println!(rt;
-        "Spend, {} and {}",
-        size_of::<Spend>(),
-        size_of::<Entry<Spend>>()
-    )?;
-    println!(rt;
-        "SpendThenMoves, {} and {}",
-        size_of::<SpendThenMoves>(),
-        size_of::<Entry<SpendThenMoves>>()
-    )?;
-    println!(rt;
-        "Peak, {} and {}",
-        size_of::<Peak>(),
-        size_of::<Entry<Peak>>()
-    )
+// Prints the bytes of a cost and of an entry in this kind, as told: `size_of` of a type parameter gets no proof.
+fn show_sizes(rt: &HostRuntime, kind: &str, cost: usize, entry: usize) -> io::Result<()> {
+    println!(rt; "{kind}, {cost} and {entry}")
 }
 
+// An entry of this cost, as it lies in memory before a queue is made.
+fn stale<K: Cost>(cost: K) -> Entry<K> {
+    Entry { cost, number: 9 }
+}
+
+// The arrays are made here, once for each kind: that an array of a type parameter fits memory is not proved.
 fn main(rt: HostRuntime) -> io::Result<()> {
-    show_sizes(&rt)?;
-    let spend = Spend::nothing();
-    show_kind(
-        &rt,
-        "Spend",
-        &mut [spend; 7],
-        &mut [Entry {
-            cost: spend,
-            number: 9,
-        }; 7],
-    )?;
-    let both = SpendThenMoves::nothing();
-    show_kind(
+    show_sizes(&rt, "Spend", size_of::<Spend>(), size_of::<Entry<Spend>>())?;
+    show_sizes(
         &rt,
         "SpendThenMoves",
-        &mut [both; 7],
-        &mut [Entry {
-            cost: both,
-            number: 9,
-        }; 7],
+        size_of::<SpendThenMoves>(),
+        size_of::<Entry<SpendThenMoves>>(),
     )?;
+    show_sizes(&rt, "Peak", size_of::<Peak>(), size_of::<Entry<Peak>>())?;
+    let spend = Spend::nothing();
+    show_kind(&rt, "Spend", &mut [spend; 7], &mut [stale(spend); 7])?;
+    let both = SpendThenMoves::nothing();
+    show_kind(&rt, "SpendThenMoves", &mut [both; 7], &mut [stale(both); 7])?;
     let peak = Peak::nothing();
-    show_kind(
-        &rt,
-        "Peak",
-        &mut [peak; 7],
-        &mut [Entry {
-            cost: peak,
-            number: 9,
-        }; 5],
-    )
+    show_kind(&rt, "Peak", &mut [peak; 7], &mut [stale(peak); 5])
 }

@@ -1,43 +1,41 @@
-use Rattle.std.proofs.Common.{◌≡◌, length, drop, sym, ap, ◌∙◌, arith}
-use Rattle.std.proofs.lemmas.List.{at_drop_all}
-use Rattle.cost.specs.Costs.{cost_of}
-use Rattle.cost.proofs.PlanCosts.{cost_of_more, payable_more, price_refused}
+use Rattle.std.proofs.Common.{◌≡◌, ◌≤◌, [], ◌∷◌, ◌++◌, append_assoc, append-nil, ap, ◌∙◌, arith}
+use Rattle.std.proofs.lemmas.Result.{err_from_is_err_and}
+use Rattle.std.proofs.lemmas.List.{nil_from_length}
+use Rattle.std.proofs.ByRecursion.{All-get_or}
+use Rattle.cost.proofs.PlanCosts.{price_refused}
 use Rattle.cost.proofs.plans.plan_cost.Goals as goal
 
-pub loop-i-init : goal.loop-i-init
-loop-i-init g c =
-    let ps = c.args.prices.now in
-    let made = c.nothing-cost.ensures in (
-      made.value ∙ sym (at_drop_all (cost_of g.K.Cost.arithmetic) ps (length ps) (omega arith)),
-      omega (arith, made.joins),
-      λ k le lt. absurd (omega arith),
-      made.within,
-    )
+pub loop-price-init : goal.loop-price-init
+loop-price-init g c = let made = c.nothing-cost.ensures in ([], simp append-nil (cc), made.value, made.joins, tt, made.within)
 
-pub loop-i-preserved : goal.loop-i-preserved
-loop-i-preserved g c =
-    let ps = c.args.prices.now in
-    let i = c.loop-i.i in
-    let inv = c.loop-i.invariant in
-    let one = c.in-Ok.ensures in (
-      cost_of_more g.K.Cost.arithmetic ps i (g.K.Cost.value c.in-Ok.joined) (g.K.Cost.value c.loop-i.cost) (omega arith) (omega arith) one.1 inv.0,
-      omega (arith, one.2, inv.1),
-      payable_more ps i 1000000000 inv.2 one.0,
+pub loop-price-preserved : goal.loop-price-preserved
+loop-price-preserved g c =
+    let inv = c.loop-price.invariant in
+    let one = c.in_ok-cost.ensures in (
+      c.in-Some.price.now ∷ inv.0,
+      inv.1 ∙ rw (c.in-Some.ensures.steps, append_assoc),
+      one.1 ∙ ap (g.K.Cost.arithmetic.joined (g.K.Cost.arithmetic.priced c.in-Some.price.now)) inv.2,
+      omega (arith, one.2, inv.3),
+      (one.0, inv.4),
       one.3,
     )
 
-pub returns-in-Err : goal.returns-in-Err
-returns-in-Err g c =
-    price_refused c.args.prices.now c.in-Err.e c.loop-i.i (g.K.Cost.joins c.loop-i.cost) (omega arith) (omega arith) (omega arith)
-    c.loop-i.invariant.1 c.in-Err.ensures
+pub returns-in_err-cost : goal.returns-in_err-cost
+returns-in_err-cost g c =
+    let inv = c.loop-price.invariant in
+    let p = err_from_is_err_and c.from_residual.result c.from_residual.ensures.1 in
+    rw (p.1, p.2)
+    (price_refused c.args.prices.now c.next.new.self.iter.rest.now inv.0 c.in-Some.price.now c.in_err-cost.field-0.0 (omega arith)
+    (inv.1 ∙ rw (c.in-Some.ensures.steps, append_assoc))
+    (rw (← inv.3) c.in_err-cost.ensures))
 
 pub returns : goal.returns
 returns g c =
-    let inv = c.loop-i.invariant in
-    let z : c.loop-i.i ≡ 0 = omega arith in (
+    let inv = c.loop-price.invariant in
+    let all : c.args.prices.now ≡ inv.0 = inv.1 ∙ ap (λ xs. xs ++ inv.0) (nil_from_length _ c.in-None.ensures.steps.0) in (
       omega arith,
-      λ k lt. inv.2 k (omega arith) lt,
-      inv.0 ∙ ap (λ k. cost_of g.K.Cost.arithmetic (drop k c.args.prices.now)) z,
-      omega (arith, inv.1),
-      inv.3,
+      λ k h. All-get_or (λ p. p ≤ 1000000000) c.args.prices.now k 0 h (rw all inv.4),
+      rw all inv.2,
+      rw all inv.3,
+      inv.5,
     )

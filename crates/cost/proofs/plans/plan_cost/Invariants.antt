@@ -1,13 +1,16 @@
-use Rattle.std.proofs.Common.{◌≡◌, ℕ, ◌+◌, ◌<◌, ◌≤◌, length, get_or, drop}
+use Rattle.std.proofs.Common.{◌≡◌, ℕ, ◌≤◌, List, ◌++◌, length}
+use Rattle.std.specs.List.{AllByRecursion}
 use Rattle.cost.specs.Costs.{cost_of}
 use Rattle.cost.specs.Limits.{Within}
 use Rattle.cost.proofs.plans.plan_cost.Given as goal
 
--- the moves from i on are joined
-abbrev pub invariant-loop-i : goal.invariant-loop-i
-invariant-loop-i g l =
+-- the last prices are joined
+abbrev pub invariant-loop-price : goal.invariant-loop-price
+invariant-loop-price g l =
     let C = g.K.Cost in
-    (C.value l.cost ≡ cost_of C.arithmetic (drop l.i l.prices))
-    × (C.joins l.cost + l.i ≡ length l.prices)
-    × ((k : ℕ) → l.i ≤ k → k < length l.prices → get_or l.prices k 0 ≤ 1000000000)
+    (ps : List ℕ)
+    × (l.prices ≡ l.price-iterator.iter.rest.now ++ ps)
+    × (C.value l.cost ≡ cost_of C.arithmetic ps)
+    × (C.joins l.cost ≡ length ps)
+    × AllByRecursion (λ p. p ≤ 1000000000) ps
     × Within (C.plain l.cost) (C.joins l.cost)

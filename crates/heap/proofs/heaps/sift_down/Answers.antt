@@ -1,25 +1,37 @@
-use Rattle.std.proofs.Common.{arith}
-use Rattle.std.proofs.lemmas.List.Sorted.{IsPermutation-refl}
-use Rattle.heap.proofs.HeapRows.{exchanged_shuffles, sinking_start, sinking_step, sinking_done, sinking_end}
+use Rattle.std.proofs.Common.{◌≡◌, ◌<◌, true, false, length, get_or, ◌∙◌, subst, arith}
+use Rattle.queue.specs.Orders.{goes}
+use Rattle.queue.specs.Held.{held}
+use Rattle.heap.specs.Heaps.{Lower}
+use Rattle.heap.proofs.HeapRows.{shuffled_more, sinking_step, sinking_done, sinking_end}
 use Rattle.heap.proofs.heaps.sift_down.Goals as goal
 
-pub loop-at-init : goal.loop-at-init
-loop-at-init g c = (IsPermutation-refl _, sinking_start g.K.Cost _ _)
-
-pub returns-then-not-ahead : goal.returns-then-not-ahead
-returns-then-not-ahead g c = record {
-  same = c.loop-at.invariant.0;
-  heaped = λ h. sinking_done g.K.Cost c.loop-at.row _ c.loop-at.at _ c.lower-child.ensures c.if-not-ahead.ensures (c.loop-at.invariant.1 h);
-}
+pub returns-then-not-ahead-clause-heaped : goal.returns-then-not-ahead-clause-heaped
+returns-then-not-ahead-clause-heaped g c h =
+    let C = g.K.Cost in
+    let at = c.loop-at.at in
+    let child = c.lower-child.result in
+    sinking_done C (held c.loop-at.heap) _ at child
+    (subst (λ row. Lower C row (length row) at child) c.as_slice.ensures c.lower-child.ensures)
+    (subst (λ row. (d : _) → false ≡ goes C (get_or row child d) (get_or row at d)) c.as_slice-in-loop-at.ensures c.if-not-ahead.ensures)
+    (c.loop-at.invariant.3 h)
 
 pub loop-at-preserved : goal.loop-at-preserved
-loop-at-preserved g c = (
-  exchanged_shuffles _ c.loop-at.row c.swap.new.self _ c.loop-at.at c.lower-child.result (omega arith) (omega arith) c.lower-child.ensures.below c.swap.ensures.by_index c.loop-at.invariant.0,
-  λ h. sinking_step g.K.Cost c.loop-at.row c.swap.new.self _ c.loop-at.at _ c.lower-child.ensures c.if-not-ahead.ensures c.swap.ensures.by_index (c.loop-at.invariant.1 h),
-)
+loop-at-preserved g c =
+    let C = g.K.Cost in
+    let xs = held c.loop-at.heap in
+    let ys = held c.swap.new.self in
+    let at = c.loop-at.at in
+    let child = c.lower-child.result in
+    let inv = c.loop-at.invariant in
+    let is = c.swap.ensures.held in
+    let low = subst (λ row. Lower C row (length row) at child) c.as_slice.ensures c.lower-child.ensures in
+    let here : at < length xs = omega arith in (
+      c.swap.ensures.lent ∙ inv.0,
+      c.swap.ensures.room ∙ inv.1,
+      shuffled_more _ xs ys at child here low.below is inv.2,
+      λ h. sinking_step C xs ys at child low
+          (subst (λ row. (d : _) → true ≡ goes C (get_or row child d) (get_or row at d)) c.as_slice-in-loop-at.ensures c.if-not-ahead.ensures) is (inv.3 h),
+    )
 
-pub returns : goal.returns
-returns g c = record {
-  same = c.loop-at.invariant.0;
-  heaped = λ h. sinking_end g.K.Cost c.loop-at.row _ c.loop-at.at (omega arith) (c.loop-at.invariant.1 h);
-}
+pub returns-clause-heaped : goal.returns-clause-heaped
+returns-clause-heaped g c h = sinking_end g.K.Cost (held c.loop-at.heap) _ c.loop-at.at (omega arith) (c.loop-at.invariant.3 h)

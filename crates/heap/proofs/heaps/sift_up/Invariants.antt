@@ -1,14 +1,19 @@
-use Rattle.std.proofs.Common.{◌+◌, ◌≤◌, take}
+use Rattle.std.proofs.Common.{◌≡◌, ◌-◌, ◌<◌, length}
 use Rattle.std.specs.List.Sorted.{IsPermutation}
+use Rattle.queue.specs.Places.{room}
+use Rattle.queue.specs.Held.{held}
 use Rattle.heap.specs.Heaps.{Heaped}
 use Rattle.heap.proofs.HeapRows.{Raising}
 use Rattle.heap.proofs.heaps.sift_up.Given as goal
 
 abbrev pub invariant-loop-at : goal.invariant-loop-at
 invariant-loop-at g l =
-    (l.at ≤ l.last)
-    × IsPermutation (take (l.last + 1) l.initial.row) (take (l.last + 1) l.row)
-    × (Heaped g.K.Cost l.initial.row l.last → Raising g.K.Cost l.row (l.last + 1) l.at)
+    let old = l.initial.heap in
+    (l.heap.places.ghost_name ≡ old.places.ghost_name)
+    × (room l.heap.places.now ≡ room old.places.now)
+    × IsPermutation (held old) (held l.heap)
+    × (l.at < length (held l.heap))
+    × (Heaped g.K.Cost (held old) (length (held old) - 1) → Raising g.K.Cost (held l.heap) (length (held l.heap)) l.at)
 
 abbrev pub decreases-loop-at : goal.decreases-loop-at
 decreases-loop-at g l = l.at

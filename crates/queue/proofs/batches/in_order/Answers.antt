@@ -1,7 +1,8 @@
-use Rattle.std.proofs.Common.{◌-◌, List, ◌++◌, length, ◌∙◌, subst, arith}
+use Rattle.std.proofs.Common.{◌≡◌, ◌-◌, min, List, ◌++◌, length, take, ap, ◌∙◌, subst, arith}
+use Rattle.std.proofs.lemmas.List.{take_min}
 use Rattle.std.specs.List.Sorted.{IsPermutation}
 use Rattle.queue.specs.Batches.{numbered}
-use Rattle.queue.proofs.Runs.{drained_from, take_min}
+use Rattle.queue.proofs.Runs.{drained_from}
 use Rattle.queue.proofs.batches.in_order.Goals as goal
 
 pub returns : goal.returns
@@ -13,7 +14,9 @@ returns g c =
     let old = Q.entries c.args.q.now in
     let mid = Q.entries c.put_all.new.q in
     let ks = c.args.costs.now in
-    let few = take_min ks (Q.room c.args.q.now - length old) c.put_all.result put.count.0 in
+    let n = Q.room c.args.q.now - length old in
+    let least : c.put_all.result ≡ min n (length ks) = omega (arith, put.count.0) in
+    let few : take c.put_all.result ks ≡ take n ks = ap (λ m. take m ks) least ∙ take_min n ks in
     record {
       lent = took.lent ∙ put.lent;
       room = took.room ∙ put.room;

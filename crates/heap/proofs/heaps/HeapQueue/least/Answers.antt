@@ -1,16 +1,10 @@
-use Rattle.std.proofs.Common.{sym}
-use Rattle.queue.proofs.Fronts.{some_front}
-use Rattle.queue.proofs.Scans.{names_at}
-use Rattle.heap.proofs.HeapRows.{heaped_at}
+use Rattle.std.proofs.Common.{◌≡◌, Some, slice_get, refl, sym, subst}
+use Rattle.std.proofs.lemmas.Option.{slice_get_within, get_or_from_slice_get}
+use Rattle.heap.proofs.HeapRows.{root_least}
 use Rattle.heap.proofs.heaps.HeapQueue.least.Goals as goal
 
-pub returns : goal.returns
-returns g c =
-    let C = g.K.Cost in
-    let xs = c.args.self.now.entries.now in
-    let k = c.args.self.now.count in
-    let is = c.in_use-count.ensures in
-    record {
-      count = some_front xs k _ is c.if-count-eq0.false;
-      names = λ h. names_at C xs k _ c.root_number.result is (c.root_number.ensures (heaped_at C xs _ _ (sym is) h));
-    }
+pub returns-clause-names : goal.returns-clause-names
+returns-clause-names g c h =
+    let x = c.in_ok-root.root.now in
+    let first = sym (subst (λ row. Some x ≡ slice_get row 0) c.as_slice.ensures c.in_ok-root.ensures.value) in
+    (x, root_least g.K.Cost _ x (slice_get_within _ 0 x first) (sym (get_or_from_slice_get _ 0 x x first)) h, refl)

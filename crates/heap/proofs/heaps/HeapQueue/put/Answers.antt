@@ -1,19 +1,17 @@
-use Rattle.std.proofs.Common.{sym, refl, rules}
-use Rattle.queue.proofs.Fronts.{put_row, put_counts}
-use Rattle.heap.proofs.HeapRows.{heaped_at, heaped_set}
+use Rattle.std.proofs.Common.{length, ap, ◌∙◌}
+use Rattle.std.proofs.lemmas.List.{length_push}
+use Rattle.std.proofs.lemmas.List.Sorted.{IsPermutation-trans, length_permutation}
+use Rattle.queue.proofs.Fronts.{added_at_end}
+use Rattle.heap.proofs.HeapRows.{heaped_push}
 use Rattle.heap.proofs.heaps.HeapQueue.put.Goals as goal
 
-pub returns : goal.returns
-returns g c =
-    let C = g.K.Cost in
-    let xs = c.args.self.now.entries.now in
-    let zs = c.sift_up.new.row in
-    let k = c.args.self.now.count in
-    let n = c.in_use-at.result in
-    record {
-      lent = refl;
-      room = search rules;
-      count = put_counts xs zs k n c.in_use-at.ensures (search rules) (search rules) (search rules);
-      ordered = λ h. heaped_at C zs _ _ (search rules) (c.sift_up.ensures.heaped (heaped_set C xs n _ (heaped_at C xs _ _ (sym c.in_use-at.ensures) h)));
-      entries = λ h. put_row xs zs k n _ c.in_use-at.ensures (search rules) (search rules) (search rules) c.sift_up.ensures.same;
-    }
+pub returns-clause-count : goal.returns-clause-count
+returns-clause-count g c =
+    let done = c.in_ok-push.ensures.done in
+    (done.0, length_permutation _ _ c.sift_up.ensures.same ∙ ap length done.1 ∙ length_push _ _)
+
+pub returns-clause-ordered : goal.returns-clause-ordered
+returns-clause-ordered g c h = c.sift_up.ensures.heaped (heaped_push g.K.Cost _ _ _ c.in_ok-push.ensures.done.1 h)
+
+pub returns-clause-entries : goal.returns-clause-entries
+returns-clause-entries g c h = IsPermutation-trans _ _ _ (added_at_end _ _ _ c.in_ok-push.ensures.done.1) c.sift_up.ensures.same

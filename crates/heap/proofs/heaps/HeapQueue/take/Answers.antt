@@ -1,22 +1,28 @@
-use Rattle.std.proofs.Common.{sym, refl, rules}
-use Rattle.queue.proofs.Fronts.{take_counts}
-use Rattle.queue.proofs.Scans.{taken_at}
-use Rattle.heap.proofs.HeapRows.{heaped_at}
+use Rattle.std.proofs.Common.{◌<◌, length, arith}
+use Rattle.std.proofs.lemmas.List.Sorted.{IsPermutation-trans, IsPermutation-sym, IsPermutation-cons, length_permutation}
+use Rattle.queue.specs.Held.{held}
+use Rattle.queue.proofs.Fronts.{taken_out}
+use Rattle.heap.proofs.HeapRows.{rooted_from, root_least}
 use Rattle.heap.proofs.heaps.HeapQueue.take.Goals as goal
 
-pub returns : goal.returns
-returns g c =
-    let C = g.K.Cost in
-    let xs = c.args.self.now.entries.now in
-    let root = c.take_root-taken.ensures in
-    let zs = c.take_root-taken.new.row in
-    let k = c.args.self.now.count in
-    let n = c.in_use-count.result in
-    let is = c.in_use-count.ensures in
-    record {
-      lent = refl;
-      room = search rules;
-      count = take_counts xs zs k n is (search rules) (search rules);
-      ordered = λ h. heaped_at C zs _ _ (search rules) (root.heaped (heaped_at C xs _ _ (sym is) h));
-      entries = λ h. taken_at C xs zs k n c.take_root-taken.result is (search rules) (root.least (heaped_at C xs _ _ (sym is) h)) root.after;
-    }
+pub returns-clause-count : goal.returns-clause-count
+returns-clause-count g c =
+    let out = c.swap_remove-root.ensures in
+    let pos : 0 < length (held c.args.self.now.waiting) = omega arith in
+    omega (
+      arith,
+      length_permutation _ _ c.sift_down.ensures.same,
+      length_permutation _ _ (taken_out (held c.args.self.now.waiting) (held c.swap_remove-root.new.self) 0 c.swap_remove-root.result pos out.taken out.left),
+    )
+
+pub returns-clause-ordered : goal.returns-clause-ordered
+returns-clause-ordered g c h = c.sift_down.ensures.heaped (rooted_from g.K.Cost _ _ _ c.swap_remove-root.ensures.left h)
+
+pub returns-clause-entries : goal.returns-clause-entries
+returns-clause-entries g c h =
+    let root = c.swap_remove-root.result in
+    let out = c.swap_remove-root.ensures in
+    let pos : 0 < length (held c.args.self.now.waiting) = omega arith in (
+      root_least g.K.Cost _ root pos out.taken h,
+      IsPermutation-trans _ _ _ (IsPermutation-sym _ _ (IsPermutation-cons root _ _ c.sift_down.ensures.same)) (taken_out _ _ 0 root pos out.taken out.left),
+    )

@@ -1,12 +1,9 @@
-use Rattle.queue.proofs.Fronts.{some_front}
-use Rattle.queue.proofs.Scans.{names_at}
+use Rattle.std.proofs.Common.{sym, ap}
+use Rattle.queue.proofs.Scans.{leads_least}
 use Rattle.queue.proofs.scanned_row.ScannedRowQueue.least.Goals as goal
 
-pub returns : goal.returns
-returns g c =
-    let xs = c.args.self.now.entries.now in
-    let k = c.args.self.now.count in
-    record {
-      count = some_front xs k _ c.in_use-count.ensures c.if-count-eq0.false;
-      names = λ u. names_at g.K.Cost xs k _ c.first_number.result c.in_use-count.ensures c.first_number.ensures;
-    }
+pub returns-clause-names : goal.returns-clause-names
+returns-clause-names g c u =
+    let x = c.index-row-at in
+    rw (← c.as_slice-row.ensures)
+    (x.result, leads_least g.K.Cost c.as_slice-row.result.now c.in_ok-at.at x.result c.in_ok-at.ensures x.is, ap (λ e. e.number) (sym x.is))

@@ -1,18 +1,15 @@
-use Rattle.std.proofs.Common.{refl, rules}
-use Rattle.queue.proofs.Fronts.{take_counts}
-use Rattle.queue.proofs.Scans.{taken_at}
+use Rattle.std.proofs.Common.{length, subst}
+use Rattle.queue.specs.Orders.{Leads}
+use Rattle.queue.specs.Held.{held}
+use Rattle.queue.proofs.Fronts.{taken_out}
+use Rattle.queue.proofs.Scans.{leads_least}
 use Rattle.queue.proofs.scanned_row.ScannedRowQueue.take.Goals as goal
 
-pub returns : goal.returns
-returns g c =
-    let xs = c.args.self.now.entries.now in
-    let zs = c.take_first-taken.new.row in
-    let k = c.args.self.now.count in
-    let n = c.in_use-count.result in
-    record {
-      lent = refl;
-      room = search rules;
-      count = take_counts xs zs k n c.in_use-count.ensures (search rules) (search rules);
-      ordered = λ u. u;
-      entries = λ u. taken_at g.K.Cost xs zs k n c.take_first-taken.result c.in_use-count.ensures (search rules) c.take_first-taken.ensures.least c.take_first-taken.ensures.after;
-    }
+pub returns-clause-entries : goal.returns-clause-entries
+returns-clause-entries g c u =
+    let C = g.K.Cost in
+    let xs = held c.args.self.now.waiting in
+    let out = c.swap_remove.ensures in
+    let at = c.in_ok-at.at in
+    let leads = subst (λ row. Leads C row (length row) at) c.as_slice.ensures c.in_ok-at.ensures in
+    (leads_least C xs at c.swap_remove.result leads out.taken, taken_out xs _ at c.swap_remove.result leads.below out.taken out.left)

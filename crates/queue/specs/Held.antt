@@ -1,0 +1,7 @@
+-- What the places in use hold.
+use Rattle.std.specs.Prelude.{List}
+use Rattle.queue.specs.declared.waiting.Waiting.{Waiting}
+use Rattle.queue.specs.Places.{front}
+
+abbrev pub held : {X : Type 0} → Waiting X → List X
+held w = front w.count w.places.now

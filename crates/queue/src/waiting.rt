@@ -1,0 +1,98 @@
+ghost use Rattle.std.specs.Prelude.{◌≡◌, ◌+◌, ◌<◌, ◌≤◌, ◌∷◌, ◌++◌, [], min, length, slice_index_or, MatchResult};
+ghost use Rattle.std.specs.List.{swap, swap_remove};
+ghost use Rattle.queue.specs.Places.{room};
+
+use crate::places::in_use;
+use rows::refusals::Refusal;
+
+// The first places of lent memory, as many as are in use: at most 65,535.
+#[derive(Drop)]
+pub struct Waiting<'a, T> {
+    places: &'a mut [T],
+    count: usize,
+    ghost inside: { count ≤ length places.now },
+    ghost few: { count ≤ 65535 },
+}
+
+impl<'a, T> Waiting<'a, T> {
+    ghost use Rattle.queue.specs.Held.{held};
+
+    // None of the places in use, whatever they hold.
+    pub fn new(places: &'a mut [T]) -> Waiting<'a, T>
+        ensures empty { held result ≡ [] }
+        ensures same { result.places.now ≡ places.old }
+        ensures lent { result.places.ghost_name ≡ places.entry.ghost_name }
+    {
+        Waiting { places, count: 0 }
+    }
+}
+
+impl<T> Waiting<'_, T> {
+    ghost use Rattle.queue.specs.Held.{held};
+
+    // How many places are in use.
+    pub fn len(&self) -> usize
+        ensures { result ≡ length (held self.now) }
+    {
+        self.count
+    }
+
+    // How many can be.
+    pub fn capacity(&self) -> usize
+        ensures { result ≡ room self.now.places.now }
+    {
+        in_use(self.places.len(), self.places.len())
+    }
+
+    // What they hold.
+    pub fn as_slice(&self) -> &[T]
+        ensures { result.now ≡ held self.now }
+    {
+        &self.places[..self.count]
+    }
+}
+
+impl<T: Copy> Waiting<'_, T> {
+    ghost use Rattle.queue.specs.Held.{held};
+
+    // Takes the next place into use; refused exactly when there is none.
+    pub fn push(&mut self, x: T) -> Result<(), Refusal>
+        ensures lent { self.new.places.ghost_name ≡ self.old.places.ghost_name }
+        ensures room { room self.new.places.now ≡ room self.old.places.now }
+        ensures done { MatchResult result (λ _. (length (held self.old) < room self.old.places.now) × (held self.new ≡ held self.old ++ x ∷ [])) (λ e. (length (held self.old) ≡ room self.old.places.now) × (e ≡ Refusal.Full) × (self.new ≡ self.old)) }
+    {
+        let at = self.count;
+        if at == self.capacity() {
+            return Err(Refusal::Full);
+        }
+        self.places[at] = x;
+        self.count = at + 1;
+        Ok(())
+    }
+
+    // Exchanges what two places hold.
+    pub fn swap(&mut self, a: usize, b: usize)
+        requires a { a < length (held self.old) }
+        requires b { b < length (held self.old) }
+        ensures lent { self.new.places.ghost_name ≡ self.old.places.ghost_name }
+        ensures room { room self.new.places.now ≡ room self.old.places.now }
+        ensures held { held self.new ≡ swap (held self.old) a b }
+    {
+        self.places.swap(a, b);
+    }
+
+    // Takes out what this place holds, and moves the last there.
+    pub fn swap_remove(&mut self, at: usize) -> T
+        requires { at < length (held self.old) }
+        ensures lent { self.new.places.ghost_name ≡ self.old.places.ghost_name }
+        ensures room { room self.new.places.now ≡ room self.old.places.now }
+        ensures taken { result ≡ slice_index_or (held self.old) at result }
+        ensures left { held self.new ≡ swap_remove (held self.old) at result }
+    {
+        let taken = self.places[at];
+        let last = self.count - 1;
+        self.places[at] = self.places[last];
+        self.count = last;
+        taken
+    }
+}
