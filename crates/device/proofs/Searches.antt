@@ -5,8 +5,7 @@ use Rattle.rows.specs.declared.refusals.Refusal.{Refusal}
 use Rattle.task.specs.Files.{Bodies, width, reading, task_of}
 use Rattle.task.proofs.Readings.{read_parts}
 use Rattle.task.proofs.Judgings.{counted}
-use Rattle.cost.specs.declared.spend.Spend.{Spend}
-use Rattle.cost.specs.contracts.spend.SpendCost.TheImpl as kind
+use Rattle.cost.specs.Spends.{Spent, spent}
 use Rattle.cost.specs.Kinds.{spend}
 use Rattle.cost.specs.Limits.{limited}
 use Rattle.planning.specs.Plans.{plan_cost}
@@ -24,9 +23,9 @@ use Rattle.device.specs.Searches.{Searched}
 use Rattle.device.proofs.Meanings.{ok_one, some_space}
 use Rattle.device.proofs.Sizes.{read_usable, Sized, sized_new, sized_capacity}
 
-module _ (file : List ℕ) (m : Memory Spend) where
+module _ (file : List ℕ) (m : Memory Spent) where
   -- the text of a plan that was found
-  tell_plan : (b : Bodies) (cap : ℕ) (out after ms : List ℕ) (k : Spend) (count : ℕ) → cap ≡ capacity_of (width b) → Solution kind.ghosts b cap ms
+  tell_plan : (b : Bodies) (cap : ℕ) (out after ms : List ℕ) (k : Spent) (count : ℕ) → cap ≡ capacity_of (width b) → Solution spent b cap ms
       → limited k.amount k.moves ≡ plan_cost spend (task_of b) ms → count ≡ length ms → after ≡ ms ++ drop count out → Searched b after (Ok (Found k count))
   tell_plan b cap out after ms k count e s cost n w =
       let here : take count after ≡ ms = ap (take count) w ∙ take_at ms (drop count out) count (sym n) in
@@ -42,14 +41,14 @@ module _ (file : List ℕ) (m : Memory Spend) where
     same_capacity = let j = (read_parts file b reads).judged in sized_capacity b m (read_usable b j.counted j.positioned) sized
 
     -- the run ended, at the device's capacity
-    ended_at : (d : Bodies) (o : Outcome) → d ≡ b → Ended kind.ghosts d (capacity (task_of d) m) o → Ended kind.ghosts b (capacity_of (width b)) o
-    ended_at d o e x = subst (λ z. Ended kind.ghosts b z o) same_capacity (subst (λ z. Ended kind.ghosts z (capacity (task_of z) m) o) e x)
+    ended_at : (d : Bodies) (o : Outcome) → d ≡ b → Ended spent d (capacity (task_of d) m) o → Ended spent b (capacity_of (width b)) o
+    ended_at d o e x = subst (λ z. Ended spent b z o) same_capacity (subst (λ z. Ended spent z (capacity (task_of z) m) o) e x)
 
-    pub tells : (out after : List ℕ) (r : Result (Solved Spend) Refusal) → length out ≡ 1024 → solver.Tells kind.ghosts file m out after r → Searched b after r
+    pub tells : (out after : List ℕ) (r : Result (Solved Spent) Refusal) → length out ≡ 1024 → solver.Tells spent file m out after r → Searched b after r
     tells out after (Ok (Found k count)) l h =
         let e : h.bodies ≡ b = ok_one h.bodies b (sym h.reads ∙ reads) in
         tell_plan b (capacity (task_of b) m) out after h.plan k count same_capacity
-        (subst (λ z. Solution kind.ghosts z (capacity (task_of z) m) h.plan) e h.solution)
+        (subst (λ z. Solution spent z (capacity (task_of z) m) h.plan) e h.solution)
         (subst (λ z. limited k.amount k.moves ≡ plan_cost spend (task_of z) h.plan) e h.cost) h.counted h.written
     tells out after (Ok NoPlan) l h =
         let e : h.0.bodies ≡ b = ok_one h.0.bodies b (sym h.0.reads ∙ reads) in

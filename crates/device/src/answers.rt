@@ -39,21 +39,21 @@ pub struct Input<'a> {
 }
 
 // Searches in new tables of the device's sizes, over any store and queue.
-fn search_with<S: Store + Drop, Q: Queue<Spend> + Drop>(
+fn search_with<S: Store, Q: Queue<Spend>>(
     input: &Input<'_>,
-    mut t: Tables<'_, Spend, S, Q>,
+    t: &mut Tables<'_, Spend, S, Q>,
     moves: &mut [u16; NODES],
 ) -> Result<Solved<Spend>, Refusal>
-    requires rows { length t.rows.now ≡ 4096 }
-    requires records { length t.records.now ≡ 1024 }
-    requires table { S.Store.table t.store ≡ input.now.accepted.task.values.now }
-    requires kept { S.Store.kept t.store ≡ [] }
-    requires space { S.Store.space t.store ≡ space_of input.now.accepted.task.values.now 4096 }
-    requires waiting { Q.Queue.entries t.queue ≡ [] }
-    requires room { Q.Queue.room t.queue ≡ 1024 }
+    requires rows { length t.old.rows.now ≡ 4096 }
+    requires records { length t.old.records.now ≡ 1024 }
+    requires table { S.Store.table t.old.store ≡ input.now.accepted.task.values.now }
+    requires kept { S.Store.kept t.old.store ≡ [] }
+    requires space { S.Store.space t.old.store ≡ space_of input.now.accepted.task.values.now 4096 }
+    requires waiting { Q.Queue.entries t.old.queue ≡ [] }
+    requires room { Q.Queue.room t.old.queue ≡ 1024 }
     ensures { Searched (held input.now.accepted.task) moves.new result }
 {
-    solve(input.bytes, &mut t, moves)
+    solve(input.bytes, t, moves)
 }
 
 // Searches for a plan of the task in an input; the plan's moves are then in the first of the lent cells.
@@ -69,13 +69,13 @@ fn search(input: &Input<'_>, moves: &mut [u16; NODES]) -> Result<Solved<Spend>, 
     }; NODES];
     let mut cells = [Cell::blank(); CELLS];
     let mut entries = [Entry { cost, number: 0 }; NODES];
-    let t = Tables {
+    let mut t = Tables {
         rows: &mut rows,
         records: &mut records,
         store: Trie::new(input.accepted.task.values, &mut cells),
         queue: Heap::new(&mut entries),
     };
-    search_with(input, t, moves)
+    search_with(input, &mut t, moves)
 }
 
 // The bytes of the longest input that is read.
@@ -141,6 +141,12 @@ pub fn answer(input: &[u8], out: &mut [u8]) -> Result<usize, Refusal>
     }
     match read(input) {
         Err(_) => write_text(b"refused 7\n", out),
-        Ok(accepted) => answer_for(&Input { bytes: input, accepted }, out),
+        Ok(accepted) => answer_for(
+            &Input {
+                bytes: input,
+                accepted,
+            },
+            out,
+        ),
     }
 }

@@ -1,5 +1,3 @@
-use Rattle.task.specs.Answers.{held}
-use Rattle.task.proofs.Readings.{read_parts}
 use Rattle.device.specs.Answers.{too_long, refused_file, long, refused, searched}
 use Rattle.device.proofs.Meanings.{one_text, cost_means, none_means, space_means}
 use Rattle.device.proofs.Lengths.{enough}
