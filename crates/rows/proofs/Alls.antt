@@ -1,6 +1,5 @@
 -- A test of each byte: of the whole list, and place by place.
-use Rattle.std.proofs.Common.{◌≡◌, ℕ, zero, suc, ◌<◌, Bool, true, ◌&&◌, List, [], ◌∷◌, length, get_or, refl, ap, arith}
-use Rattle.std.specs.List.{list_all}
+use Rattle.std.proofs.Common.{◌≡◌, ℕ, zero, suc, ◌<◌, Bool, true, List, [], ◌∷◌, length, get_or, refl, arith}
 use Rattle.std.proofs.lemmas.Bool.{and_parts, and_from}
 use Rattle.rows.specs.Rows.{all}
 
@@ -13,7 +12,3 @@ module _ (p : ℕ → Bool) where
   pub all_from : (xs : List ℕ) → ((i : ℕ) → i < length xs → p (get_or xs i 0) ≡ true) → all p xs ≡ true
   all_from [] h = refl
   all_from (a ∷ xs) h = and_from (p a) (all p xs) (h 0 (omega arith)) (all_from xs (λ i k. h (suc i) (omega arith)))
-
-  pub all_is : (xs : List ℕ) → list_all p xs ≡ all p xs
-  all_is [] = refl
-  all_is (a ∷ xs) = ap (λ t. p a && t) (all_is xs)

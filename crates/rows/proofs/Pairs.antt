@@ -1,20 +1,9 @@
 -- What is said of rows place by place, as lists of what stands side by side.
-use Rattle.std.proofs.Common.{◌≡◌, ℕ, not, min, ◌&&◌, ◌||◌, List, [], ◌∷◌, map, length, refl, ap, sym, ◌∙◌, arith}
+use Rattle.std.proofs.Common.{◌≡◌, ℕ, min, List, [], ◌∷◌, map, length, refl, ap, sym, ◌∙◌, arith}
 use Rattle.std.proofs.lemmas.List.{length-map}
 use Rattle.std.proofs.lemmas.Slice.Zip.{length-zip}
-use Rattle.std.specs.List.{list_all, list_any, zip}
-use Rattle.rows.specs.Rows.{hits, hits_at, clear, clashes, backed, backed_at, overlaid, overlaid_at}
-
-pub hits_pairs : (g e : List ℕ) → list_any (λ (q : ℕ × ℕ). hits_at q.0 q.1) (zip g e) ≡ hits g e
-hits_pairs [] e = refl
-hits_pairs (b ∷ g) [] = refl
-hits_pairs (b ∷ g) (x ∷ e) = ap (λ t. hits_at b x || t) (hits_pairs g e)
-
-pub clear_pairs : (g c e : List ℕ) → list_all (λ (q : (ℕ × ℕ) × ℕ). not (clashes q.0.0 q.0.1 q.1)) (zip (zip g c) e) ≡ clear g c e
-clear_pairs [] c e = refl
-clear_pairs (b ∷ g) [] e = refl
-clear_pairs (b ∷ g) (y ∷ c) [] = refl
-clear_pairs (b ∷ g) (y ∷ c) (x ∷ e) = ap (λ t. not (clashes b y x) && t) (clear_pairs g c e)
+use Rattle.std.specs.List.{zip}
+use Rattle.rows.specs.Rows.{backed, backed_at, overlaid, overlaid_at}
 
 pub backed_pairs : (g c e : List ℕ) → map (λ (q : (ℕ × ℕ) × ℕ). backed_at q.0.0 q.0.1 q.1) (zip (zip g c) e) ≡ backed g c e
 backed_pairs [] c e = refl

@@ -3,6 +3,7 @@
 -- A task has V variables; its values table says how many values each one has, numbered from 0. A row has one byte for each
 -- variable: a value, or 255, the mark for undefined. A complete row (a state) has no mark; any other is a partial state.
 use Rattle.std.specs.Prelude.{ℕ, Bool, true, false, cond, not, ◌&&◌, ◌||◌, List, [], ◌∷◌, length, Some, None, Option, ◌==◌, nat_le, nat_lt}
+use Rattle.std.specs.List.{list_all}
 
 abbrev pub Row : Type 0
 Row = List ℕ
@@ -13,8 +14,7 @@ fixed b = not (b == 255)
 
 -- the test holds of each byte
 abbrev pub all : (ℕ → Bool) → List ℕ → Bool
-all p [] = true
-all p (a ∷ xs) = p a && all p xs
+all = list_all
 
 -- every variable has at least one value
 abbrev pub valued : List ℕ → Bool

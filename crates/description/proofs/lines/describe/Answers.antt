@@ -2,14 +2,8 @@ use Rattle.std.proofs.Common.{◌≡◌, ltb, length, sym, ap, ◌∙◌, arith}
 use Rattle.std.proofs.lemmas.Result.{IfOk-weaker}
 use Rattle.std.proofs.lemmas.Bool.{cond-false, le-ltb}
 use Rattle.task.specs.Answers.{held}
-use Rattle.task.proofs.Readings.{read_parts}
 use Rattle.description.specs.Texts.{answered, described, refused_line, task_text}
 use Rattle.description.proofs.lines.describe.Goals as goal
-
-pub invariant_of-task_text : goal.invariant_of-task_text
-invariant_of-task_text c =
-    let j = (read_parts c.args.input.now (held c.in-Ok.task) c.in-Ok.ensures.reading).judged in
-    record { counted = j.counted; positioned = j.positioned; priced = j.priced; named = j.named }
 
 pub returns-in-Err : goal.returns-in-Err
 returns-in-Err c =
@@ -21,6 +15,6 @@ returns-in-Err c =
 pub returns-in-Ok : goal.returns-in-Ok
 returns-in-Ok c =
     let input = c.args.input.now in
-    let whole : described input ≡ task_text (held c.in-Ok.task)
+    let whole : described input ≡ task_text (held c.in-Ok.accepted.task)
     = cond-false (ltb 32768 (length input)) _ _ (le-ltb 32768 (length input) (omega arith)) ∙ ap answered c.in-Ok.ensures.reading in
     IfOk-weaker c.task_text.result _ _ (λ t h. h ∙ sym whole) c.task_text.ensures

@@ -15,3 +15,6 @@ returns-then-out-row c =
     let x = c.args.self.now.effect.now in
     too_short _ _ (backed g y x) c.args.out.now (search rules) (search rules)
     (omega (arith, length_backed g y x, level c.args.values.now y g c.if-not-fits.ensures c.if-not-fits-3.ensures, level c.args.values.now x g c.if-not-fits-2.ensures c.if-not-fits-3.ensures))
+
+pub is_regressed-requires : goal.is_regressed-requires
+is_regressed-requires c = omega (arith, level c.args.values.now c.args.self.now.condition.now c.args.row.now c.if-not-fits.ensures c.if-not-fits-3.ensures)
