@@ -1,8 +1,10 @@
 -- What a comparison of bytes says of the rows that lie there.
-use Rattle.std.proofs.Common.{◌≡◌, ℕ, ◌+◌, ◌*◌, ◌<◌, ◌≤◌, Bool, true, false, List, [], length, get_or, sym, ap, ◌∙◌, subst, arith}
+use Rattle.std.proofs.Common.{◌≡◌, ℕ, ◌+◌, ◌*◌, ◌<◌, ◌≤◌, Bool, true, false, List, [], length, get_or, sym, refl, ap, ◌∙◌, subst, arith, MatchBool, Option, Some, None}
 use Rattle.std.proofs.lemmas.List.{ext_get_or}
-use Rattle.rows.specs.Rows.{Row, both, fits, fits_at}
+use Rattle.std.proofs.lemmas.Bool.{both_ways}
+use Rattle.rows.specs.Rows.{Row, covers, both, fits, fits_at}
 use Rattle.rows.proofs.Both.{both_from, both_not_at, both_length}
+use Rattle.store.specs.Stores.{CoverFound}
 use Rattle.store.specs.Blocks.{row_at, rows_of, row_read, length_row, kept_at, length_rows}
 
 -- a row that fits is as long as the values table
@@ -44,3 +46,18 @@ none_of P width n bytes f r h p =
 pub one_of : (P : Row → Type 0) (width n : ℕ) (bytes : List ℕ) (r : ℕ) → r < n → P (row_at width bytes r)
     → (r < length (rows_of width n bytes)) × P (get_or (rows_of width n bytes) r [])
 one_of P width n bytes r h p = (omega (arith, length_rows width n bytes), subst P (sym (kept_at width n bytes r h)) p)
+
+-- what a test has told, by its answer
+pub told : (b : Bool) {P Q : Type 0} → (b ≡ true → P) → (b ≡ false → Q) → MatchBool b P Q
+told true p q = p refl
+told false p q = q refl
+
+-- what a search among the first n rows has found
+pub cover_found : (width n : ℕ) (bytes row : List ℕ) (o : Option ℕ) → (o ≡ None → (r : ℕ) → r < n → covers (row_at width bytes r) row ≡ false)
+    → ((r : ℕ) → o ≡ Some r → (r < n) × (covers (row_at width bytes r) row ≡ true)) → CoverFound (rows_of width n bytes) row o
+cover_found width n bytes row None none some = λ r q.
+    none_of (λ x. covers x row ≡ true) width n bytes (λ k h v. both_ways (covers (row_at width bytes k) row) (none refl k h) v) r q.below q.over
+cover_found width n bytes row (Some r) none some =
+    let f = some r refl in
+    let o = one_of (λ x. covers x row ≡ true) width n bytes r f.0 f.1 in
+    record { below = o.0; over = o.1 }
