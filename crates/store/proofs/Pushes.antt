@@ -1,12 +1,11 @@
 -- One row more at the end of a list, and in the bytes of a row store.
-use Rattle.std.proofs.Common.{◌≡◌, ℕ, ◌+◌, ◌-◌, ◌*◌, ◌<◌, ◌≤◌, true, ◌⊎◌, List, [], ◌∷◌, ◌++◌, length, get_or, take, drop, set, sym, ap, ◌∙◌, subst, inl, inr, mul-le-mul_right, add-mul, one-mul, arith, rules}
-use Rattle.std.proofs.lemmas.List.{ext_get_or, drop-set-add, take-set-le, length_push, get_or_append_left, get_or_push, length-set}
+use Rattle.std.proofs.Common.{◌≡◌, ℕ, ◌+◌, ◌-◌, ◌*◌, ◌<◌, ◌≤◌, true, ◌⊎◌, List, [], ◌∷◌, ◌++◌, length, get_or, take, drop, sym, ap, ◌∙◌, subst, inl, inr, mul-le-mul_right, add-mul, one-mul, arith, rules}
+use Rattle.std.proofs.lemmas.List.{ext_get_or, length_push, get_or_append_left, get_or_push}
 use Rattle.std.proofs.lemmas.Slice.{between_is, take-put_mid_below, between-put_mid, overwrites}
 use Rattle.std.proofs.lemmas.Bool.{cases_lt}
 use borrow.Rule.Slice.PartMut.{put_mid}
 use Rattle.std.proofs.lemmas.List.FromFn.{map-range_with_len_more}
-use Rattle.rows.specs.Rows.{Row, fits, fits_at}
-use Rattle.rows.proofs.Both.{both_length}
+use Rattle.rows.specs.Rows.{Row, fits}
 use Rattle.store.specs.Stores.{Distinct, AllFit, Holds, space_of}
 use Rattle.store.specs.Blocks.{row_at, rows_of, kept_at, length_rows, inside}
 use Rattle.store.proofs.Searches.{wide}
@@ -34,10 +33,10 @@ module _ (width n at k : ℕ) (bytes row new : List ℕ) (p : at ≡ n * width) 
   pub rows_push : rows_of width (n + 1) (put_mid at k bytes new) ≡ rows_of width n bytes ++ row ∷ []
   rows_push =
       let old : rows_of width n (put_mid at k bytes new) ≡ rows_of width n bytes =
-          ext_get_or [] _ _ (length_rows width n (put_mid at k bytes new) ∙ sym (length_rows width n bytes))
-          (λ r l.
-          let b : r < n = omega (arith, length_rows width n (put_mid at k bytes new)) in
-          kept_at width n (put_mid at k bytes new) r b ∙ old_row r b ∙ sym (kept_at width n bytes r b)) in
+      ext_get_or [] _ _ (length_rows width n (put_mid at k bytes new) ∙ sym (length_rows width n bytes))
+      (λ r l.
+      let b : r < n = omega (arith, length_rows width n (put_mid at k bytes new)) in
+      kept_at width n (put_mid at k bytes new) r b ∙ old_row r b ∙ sym (kept_at width n bytes r b)) in
       map-range_with_len_more (row_at width (put_mid at k bytes new)) 0 n n (omega arith) ∙ ap (λ x. x ++ row_at width (put_mid at k bytes new) n ∷ []) old
       ∙ ap (λ x. rows_of width n bytes ++ x ∷ []) new_row
 

@@ -76,9 +76,11 @@ impl<'t, 'm> Store for RowStore<'t, 'm> {
         if !fits(self.values, row) {
             return Err(Refusal::Misfit);
         }
-        Ok((0..self.count)
-            .find(|r| row_covers(self.row_at(*r), row))
-            .map(|r| r as u16))
+        Ok(
+            (0..self.count)
+                .find(|r| row_covers(self.row_at(*r), row))
+                .map(|r| r as u16),
+        )
     }
 
     // The bytes past the kept rows are written first: until the count is raised, the store means what it did.
