@@ -47,7 +47,7 @@ impl<'t, 'm> Trie<'t, 'm> {
 
 impl Trie<'_, '_> {
     // Looks into the cell c, which lies in the level `level`: the rank of a covering row that goes by it.
-    #[cycle(along_look)]
+    // It goes one variable deeper into the branch of the mark and that of the row's byte.
     fn look(&self, row: &[u8], c: usize, level: usize) -> Option<u16>
         requires { Looks self.now.values.now row.now self.now.cells.now self.now.used self.now.count c level }
         ensures { Looked self.now.values.now row.now self.now.cells.now self.now.used self.now.count c level result }
@@ -55,25 +55,17 @@ impl Trie<'_, '_> {
         if level >= self.values.len() {
             return Some(self.cells[c].rank);
         }
-        self.along(row, self.cells[c].head as usize, level)
-    }
-
-    // Goes along the branches from b on, and one variable deeper into that of the mark and that of the row's byte.
-    #[cycle(along_look)]
-    fn along(&self, row: &[u8], b: usize, level: usize) -> Option<u16>
-        requires { Goes self.now.values.now row.now self.now.cells.now self.now.used self.now.count b level }
-        ensures { Gone self.now.values.now row.now self.now.cells.now self.now.used self.now.count b level result }
-    {
-        if b == 0 {
-            return None;
-        }
-        let cell = self.cells[b];
-        if leads(cell.byte, row[level]) {
-            if let Some(r) = self.look(row, b, level + 1) {
-                return Some(r);
+        let mut b = self.cells[c].head as usize;
+        while b != 0 {
+            let cell = self.cells[b];
+            if leads(cell.byte, row[level]) {
+                if let Some(r) = self.look(row, b, level + 1) {
+                    return Some(r);
+                }
             }
+            b = cell.next as usize;
         }
-        self.along(row, cell.next as usize, level)
+        None
     }
 
     // The branch of the cell c with that byte.
