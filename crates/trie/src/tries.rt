@@ -92,8 +92,8 @@ impl Trie<'_, '_> {
         ensures { Deepest self.now.values.now row.now self.now.cells.now self.now.used result.0 result.1 }
     {
         let mut c = 0;
-        for level in 0..row.len() {
-            let Some(b) = self.branch(c, row[level]) else {
+        for (level, byte) in row.iter().enumerate() {
+            let Some(b) = self.branch(c, *byte) else {
                 return (c, level);
             };
             c = b;

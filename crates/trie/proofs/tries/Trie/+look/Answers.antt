@@ -19,11 +19,6 @@ look-requires t c =
     let i = c.loop-b.invariant.0 in
     (omega (arith, i.shallow, c.decreases), along_look _ _ _ _ _ (of c.args.self.now) c.loop-b.b c.args.level i (omega arith) (sym c.if-leads.ensures))
 
-pub loop-b-smaller : goal.loop-b-smaller
-loop-b-smaller t c =
-    let p : 0 < c.loop-b.b = omega arith in
-    omega (arith, (of c.args.self.now).next_in c.loop-b.b p c.loop-b.invariant.0.within)
-
 pub loop-b-preserved : goal.loop-b-preserved
 loop-b-preserved t c =
     let s = c.args.self.now in
