@@ -1,5 +1,5 @@
 -- The steps of keeping a row in a trie.
-use Rattle.std.proofs.Common.{◌≡◌, ℕ, ◌+◌, ◌-◌, ◌*◌, ◌/◌, ◌<◌, ◌≤◌, min, Bool, true, false, cond, ◌&&◌, ltb, leb, ◌≢◌, List, [], ◌∷◌, ◌++◌, length, get_or, set, sym, refl, ap, ◌∙◌, subst, mul-le-mul_right, add-mul, one-mul, arith}
+use Rattle.std.proofs.Common.{◌≡◌, ℕ, ◌+◌, ◌-◌, ◌*◌, ◌/◌, ◌<◌, ◌≤◌, min, Bool, true, false, cond, ◌&&◌, ltb, leb, ◌≢◌, List, [], ◌∷◌, ◌++◌, length, get_or, get_or-take, get_or-drop, take, drop, set, sym, refl, ap, ◌∙◌, subst, mul-le-mul_right, add-mul, one-mul, arith}
 use Rattle.std.proofs.lemmas.Bool.{and_parts, ltb-true, leb-true}
 use Rattle.std.proofs.lemmas.List.{get_or-set_other, length-set}
 use Rattle.rows.specs.Rows.{fits, usable, valued}
@@ -67,6 +67,10 @@ pub record Filling (a s : Trie) (row : List ℕ) (head level k i : ℕ) : Type 0
   pub long : length s.cells.now ≡ length a.cells.now
   pub old : (x : ℕ) → x < a.used → at s.cells.now x ≡ at a.cells.now x
   pub new : (j : ℕ) → j < i → at s.cells.now (a.used + j) ≡ linked head a.used k a.count j (get_or row (level + j) 0)
+
+-- byte i of the row from the level on
+pub rest_byte : (row : List ℕ) (level i : ℕ) → i < length row - level → get_or (take (length row - level) (drop level row)) i 0 ≡ get_or row (level + i) 0
+rest_byte row level i h = rw (get_or-take, get_or-drop)
 
 abbrev pub hung_in : List Cell → ℕ → ℕ → List Cell
 hung_in cs c v = set cs c (headed (at cs c) v)

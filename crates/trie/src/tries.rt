@@ -115,10 +115,15 @@ impl Trie<'_, '_> {
     {
         let from = self.used;
         let rank = self.count;
-        let head = self.cells[c].head;
         let k = row.len() - level;
-        for i in 0..k {
-            self.cells[from + i] = link(head, from, k, rank as u16, i, row[level + i]);
+        let new = NewCells {
+            head: self.cells[c].head,
+            from,
+            k,
+            rank: rank as u16,
+        };
+        for (i, byte) in row[level..].iter().enumerate() {
+            self.cells[from + i] = new.cell(i, *byte);
         }
         self.cells[c].head = from as u32;
         self.used = from + k;
@@ -143,24 +148,32 @@ fn leads(byte: u8, asked: u8) -> bool
     byte == MARK || byte == asked
 }
 
-// The i-th of the k new cells of a row, which lie from the place `from` on; `head` is the branch that was the newest until now.
-fn link(head: u32, from: usize, k: usize, rank: u16, i: usize, byte: u8) -> Cell
-    requires { from + i + 1 < 2 ^ 32 }
-    ensures { result ≡ linked head from k rank i byte }
-{
-    let mut next = head;
-    if i > 0 {
-        next = 0;
-    }
-    let mut below = 0;
-    if i + 1 < k {
-        below = (from + i + 1) as u32;
-    }
-    Cell {
-        head: below,
-        next,
-        rank,
-        byte,
+// The new cells of a row: k of them, which lie from the place `from` on. The first becomes the newest branch of a cell whose newest
+// one is `head` until now.
+#[derive(Clone, Copy)]
+struct NewCells {
+    head: u32,
+    from: usize,
+    k: usize,
+    rank: u16,
+}
+
+impl NewCells {
+    // The i-th of these cells.
+    fn cell(self, i: usize, byte: u8) -> Cell
+        requires { self.from + i + 1 < 2 ^ 32 }
+        ensures { result ≡ linked self.head self.from self.k self.rank i byte }
+    {
+        Cell {
+            head: if i + 1 < self.k {
+                (self.from + i + 1) as u32
+            } else {
+                0
+            },
+            next: if i == 0 { self.head } else { 0 },
+            rank: self.rank,
+            byte,
+        }
     }
 }
 

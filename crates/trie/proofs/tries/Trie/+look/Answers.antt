@@ -26,10 +26,10 @@ loop-b-preserved t c =
     let i = c.loop-b.invariant in
     let p : 0 < b = omega arith in
     let here : Looked s.values.now c.args.row.now s.cells.now s.used s.count b (c.args.level + 1) None =
-        elim c.if-leads.branch [
-          | then-leads+in_default w ↦ w.in_default.ensures
-          | else-leads w ↦ along_skip _ _ _ _ _ (of s) b c.args.level i.0 (both_ways (covers_at (at s.cells.now b).byte (get_or c.args.row.now c.args.level 0)) (sym w.if-leads.ensures))
-        ] in
+    elim c.if-leads.branch [
+      | then-leads+in_default w ↦ w.in_default.ensures
+      | else-leads w ↦ along_skip _ _ _ _ _ (of s) b c.args.level i.0 (both_ways (covers_at (at s.cells.now b).byte (get_or c.args.row.now c.args.level 0)) (sym w.if-leads.ensures))
+    ] in
     (along_along _ _ _ _ _ (of s) b c.args.level i.0 p, λ rest. i.1 (along_none _ _ _ _ _ (of s) b c.args.level i.0 p here rest))
 
 pub returns : goal.returns

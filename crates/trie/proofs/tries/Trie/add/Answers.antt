@@ -2,15 +2,25 @@ use Rattle.std.proofs.Common.{◌+◌, ◌-◌, ◌<◌, ◌≤◌, ◌≢◌, l
 use Rattle.std.proofs.lemmas.List.{get_or-set_same, get_or-set_other, length-set}
 use Rattle.rows.specs.Rows.{fits_at}
 use Rattle.rows.proofs.Both.{both_length}
-use Rattle.trie.specs.Cells.{blank}
+use Rattle.trie.specs.Cells.{at, blank, linked}
 use Rattle.trie.proofs.Descents.{reach}
-use Rattle.trie.proofs.Fills.{short, space_next, still, hung}
+use Rattle.trie.proofs.Fills.{short, space_next, still, hung, rest_byte}
 use Rattle.trie.proofs.tries.Trie.add.Goals as goal
 
 pub overflow_sub-k : goal.overflow_sub-k
 overflow_sub-k c =
     let e = both_length fits_at c.args.self.now.values.now c.args.row.now c.requires.fit in
     omega (arith, c.requires.fresh)
+
+pub slice_bounds-byte-items-count : goal.slice_bounds-byte-items-count
+slice_bounds-byte-items-count c =
+    let e = both_length fits_at c.args.self.now.values.now c.args.row.now c.requires.fit in
+    omega (arith, c.requires.fresh)
+
+pub slice_bounds-byte-items-start : goal.slice_bounds-byte-items-start
+slice_bounds-byte-items-start c =
+    let l : c.args.level ≤ length c.args.row.now = slice_bounds-byte-items-count c in
+    search rules
 
 pub bounds-self-c : goal.bounds-self-c
 bounds-self-c c = let a = c.args.self.now in omega (arith, reach a (omega (arith, c.requires.spare)), c.requires.way.within)
@@ -22,8 +32,8 @@ offset_bounds-self-c c =
     search rules
 
 -- the new cells lie inside, and their places are numbers of 32 bits
-pub link-requires : goal.link-requires
-link-requires c =
+pub cell-requires : goal.cell-requires
+cell-requires c =
     let a = c.args.self.now in
     let e = both_length fits_at a.values.now c.args.row.now c.requires.fit in
     let k : c.loop-i.i + 1 ≤ length a.values.now = omega (arith, c.loop-i-test.true) in
@@ -54,7 +64,7 @@ bounds-self-from c =
 
 pub invariant_of-self : goal.invariant_of-self
 invariant_of-self c =
-    let t = still c.loop-i.self (c.args.self.now.used + c.loop-i.i) c.link.result (omega (arith, c.loop-i.invariant.used)) in
+    let t = still c.loop-i.self (c.args.self.now.used + c.loop-i.i) c.cell.result (omega (arith, c.loop-i.invariant.used)) in
     record { measured = t.measured; inside = t.inside; sound = t.sound }
 
 pub loop-i-preserved : goal.loop-i-preserved
@@ -66,6 +76,7 @@ loop-i-preserved c =
     let e = both_length fits_at a.values.now c.args.row.now c.requires.fit in
     let h : a.used + i < length s.cells.now =
     omega (arith, space_next a (length c.args.row.now - c.args.level) c.requires.spare (omega arith), w.long, c.loop-i-test.true) in
+    let b = ap (linked (at a.cells.now c.args.c).head a.used (length c.args.row.now - c.args.level) a.count i) (rest_byte c.args.row.now c.args.level i (omega (arith, c.loop-i-test.true))) in
     record {
       values = w.values;
       space = w.space;
@@ -73,10 +84,10 @@ loop-i-preserved c =
       count = w.count;
       lender = w.lender;
       long = length-set _ _ _ ∙ w.long;
-      old = λ x l. let ne : x ≢ a.used + i = omega arith in get_or-set_other s.cells.now (a.used + i) x c.link.result blank ne ∙ w.old x l;
+      old = λ x l. let ne : x ≢ a.used + i = omega arith in get_or-set_other s.cells.now (a.used + i) x c.cell.result blank ne ∙ w.old x l;
       new = below_more _ _
-          (λ j l. let ne : a.used + j ≢ a.used + i = omega arith in get_or-set_other s.cells.now (a.used + i) (a.used + j) c.link.result blank ne ∙ w.new j l)
-          (get_or-set_same s.cells.now (a.used + i) c.link.result blank h ∙ c.link.ensures);
+          (λ j l. let ne : a.used + j ≢ a.used + i = omega arith in get_or-set_other s.cells.now (a.used + i) (a.used + j) c.cell.result blank ne ∙ w.new j l)
+          (get_or-set_same s.cells.now (a.used + i) c.cell.result blank h ∙ c.cell.ensures ∙ b);
     }
 
 pub overflow_cast-self : goal.overflow_cast-self
