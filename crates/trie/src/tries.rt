@@ -12,6 +12,7 @@ use store::capacity::capacity_of;
 use store::stores::Store;
 
 // A trie of rows in lent cells: each level branches by one variable, and a kept row is a way from the root to a cell of the last level.
+// A cell names others by their places in the lent slice, since a device has no heap to own them.
 #[derive(Drop)]
 pub struct Trie<'t, 'm> {
     values: &'t [u8],
@@ -136,8 +137,8 @@ fn plant(cells: &mut [Cell])
     ensures root { cells.new ≡ slice_set cells.old 0 blank }
     ensures sound { (values : List ℕ) → IsSound values cells.new 1 0 }
 {
-    if cells.len() > 0 {
-        cells[0] = Cell::blank();
+    if let Some(root) = cells.first_mut() {
+        *root = Cell::blank();
     }
 }
 
