@@ -84,61 +84,40 @@ fn show(rt: &HostRuntime, makes: &str, file: &[u8], a: &Answer) -> io::Result<()
     Ok(())
 }
 
-// The file of a task in each pair of makes: a line for each, and whether they told the same.
-fn show_pairs<K: Cost>(
-    rt: &HostRuntime,
+// What is told of a task's file in each pair of makes, with as many records as the task has space for nodes.
+fn told_in_pairs<K: Cost>(
     file: &[u8],
     c: &Case,
     nodes: &mut Nodes<'_, K>,
-) -> io::Result<()> {
+) -> [(&'static str, Answer); 4] {
     let records = &mut *nodes.records;
     let entries = &mut *nodes.entries;
     let n = c.capacity.min(records.len());
     let values = c.task.values;
     let mut bytes = [0; BYTES];
     let mut cells = [Cell::blank(); BYTES];
-    let answers = [
-        (
-            "row store, scanned row",
-            told(
-                file,
-                &mut records[..n],
-                RowStore::new(values, &mut bytes),
-                ScannedRow::new(entries),
-            ),
-        ),
-        (
-            "row store, heap",
-            told(
-                file,
-                &mut records[..n],
-                RowStore::new(values, &mut bytes),
-                Heap::new(entries),
-            ),
-        ),
-        (
-            "trie, scanned row",
-            told(
-                file,
-                &mut records[..n],
-                Trie::new(values, &mut cells),
-                ScannedRow::new(entries),
-            ),
-        ),
-        (
-            "trie, heap",
-            told(
-                file,
-                &mut records[..n],
-                Trie::new(values, &mut cells),
-                Heap::new(entries),
-            ),
-        ),
-    ];
-    for (makes, a) in &answers {
+    let rows = RowStore::new(values, &mut bytes);
+    let first = told(file, &mut records[..n], rows, ScannedRow::new(entries));
+    let rows = RowStore::new(values, &mut bytes);
+    let second = told(file, &mut records[..n], rows, Heap::new(entries));
+    let trie = Trie::new(values, &mut cells);
+    let third = told(file, &mut records[..n], trie, ScannedRow::new(entries));
+    let trie = Trie::new(values, &mut cells);
+    let fourth = told(file, &mut records[..n], trie, Heap::new(entries));
+    [
+        ("row store, scanned row", first),
+        ("row store, heap", second),
+        ("trie, scanned row", third),
+        ("trie, heap", fourth),
+    ]
+}
+
+// A line for each pair of makes, and whether they told the same.
+fn show_pairs(rt: &HostRuntime, file: &[u8], answers: &[(&'static str, Answer)]) -> io::Result<()> {
+    for (makes, a) in answers {
         show(rt, makes, file, a)?;
     }
-    let same = answers.iter().all(|pair| pair.1 == answers[0].1);
+    let same = answers.windows(2).all(|pair| pair[0].1 == pair[1].1);
     println!(rt; "\n  all the same: {same}")
 }
 
@@ -153,7 +132,8 @@ fn show_case<K: Cost>(
     print!(rt; "{kind}, {title}")?;
     let mut bytes = [0; 256];
     let length = write(&c.task, &mut bytes).unwrap_or(0).min(256);
-    show_pairs(rt, &bytes[..length], c, nodes)
+    let file = &bytes[..length];
+    show_pairs(rt, file, &told_in_pairs(file, c, nodes))
 }
 
 // All tasks in one kind of cost.
