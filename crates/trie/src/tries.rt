@@ -12,7 +12,6 @@ use store::capacity::capacity_of;
 use store::stores::Store;
 
 // A trie of rows in lent cells: each level branches by one variable, and a kept row is a way from the root to a cell of the last level.
-// A cell names others by their places in the lent slice, since a device has no heap to own them.
 #[derive(Drop)]
 pub struct Trie<'t, 'm> {
     values: &'t [u8],
@@ -70,6 +69,7 @@ impl Trie<'_, '_> {
     }
 
     // The branch of the cell c with that byte.
+    // As in `look`, a plain loop goes along the branches: an iterator of them, with its own proof, would be longer than both loops.
     fn branch(&self, c: usize, byte: u8) -> Option<usize>
         requires some { 0 < self.now.space }
         requires within { c < self.now.used }
