@@ -1,8 +1,11 @@
 // What a job tells, in whatever makes and kind of cost it is worked.
+use arrayvec::ArrayVec;
 use cost::costs::Cost;
 use queue::queues::Queue;
+use rows::refusals::Refusal;
 use search::jobs::{Found, Searching, Work, Worked};
 use search::opens::open;
+use std::fmt;
 use steps::tables::Tables;
 use store::stores::Store;
 
@@ -10,80 +13,56 @@ use store::stores::Store;
 const TURNS: u32 = 4096;
 
 // The longest plan that is read.
-pub const LONGEST: usize = 16;
+const LONGEST: usize = 16;
 
-#[derive(Clone, Copy)]
+// How a job ended.
+#[derive(PartialEq, Drop)]
 pub enum Ending {
-    Found,
+    Found {
+        amount: u64,
+        plan: ArrayVec<u16, LONGEST>,
+    },
     NoPlan,
     OutOfSpace,
     Refused,
     Endless,
 }
 
-#[derive(Clone, Copy)]
+// What is told of a job: how it ended, in which step, and how many nodes were stored.
+#[derive(PartialEq, Drop)]
 pub struct Answer {
     pub ending: Ending,
     pub steps: u32,
     pub stored: u16,
-    pub amount: u64,
-    pub count: usize,
-    pub plan: [u16; LONGEST],
 }
 
-impl Ending {
-    pub fn word(self) -> &'static str {
+impl fmt::Display for Ending {
+    fn fmt<W: fmt::Write>(&self, f: &mut fmt::Formatter<W>) -> fmt::Result {
         match self {
-            Ending::Found => "found",
-            Ending::NoPlan => "no plan",
-            Ending::OutOfSpace => "out of space",
-            Ending::Refused => "refused",
-            Ending::Endless => "endless",
+            Ending::Found { amount: _, plan: _ } => write!(f, "found"),
+            Ending::NoPlan => write!(f, "no plan"),
+            Ending::OutOfSpace => write!(f, "out of space"),
+            Ending::Refused => write!(f, "refused"),
+            Ending::Endless => write!(f, "endless"),
         }
     }
 }
 
-// Whether two answers are the same, the plan's moves and their order too.
-pub fn same(a: &Answer, b: &Answer) -> bool {
-    a.ending as u8 == b.ending as u8
-        && a.steps == b.steps
-        && a.stored == b.stored
-        && a.amount == b.amount
-        && a.count == b.count
-        && a.plan == b.plan
-}
-
-fn ended(ending: Ending, steps: u32, stored: u16) -> Answer {
-    Answer {
-        ending,
-        steps,
-        stored,
-        amount: 0,
-        count: 0,
-        plan: [0; LONGEST],
-    }
-}
-
-// The answer of a found job.
+// The ending of a found job.
 fn found<K: Cost, S: Store, Q: Queue<K>>(
     job: &Found,
     file: &[u8],
     t: &Tables<'_, K, S, Q>,
-    steps: u32,
-    stored: u16,
-) -> Answer {
-    let mut plan = [0; LONGEST];
-    match (job.cost(file, t), job.plan(file, t, &mut plan)) {
-        (Ok(cost), Ok(count)) => Answer {
-            ending: Ending::Found,
-            steps,
-            stored,
-            amount: cost.amount(),
-            count,
-            plan,
-        },
-        _ => ended(Ending::Refused, steps, stored),
-    }
+) -> Result<Ending, Refusal> {
+    let cost = job.cost(file, t)?;
+    let mut moves = [0; LONGEST];
+    let count = job.plan(file, t, &mut moves)?;
+    let mut plan = ArrayVec::from(moves);
+    plan.truncate(count);
+    Ok(Ending::Found {
+        amount: cost.amount(),
+        plan,
+    })
 }
 
 // Works a job step by step to its end.
@@ -96,20 +75,38 @@ fn finish<K: Cost, S: Store, Q: Queue<K>>(
     let mut steps = 0u32;
     for _ in 0..TURNS {
         match job.work(file, t, 1) {
-            Work::Idle(_) | Work::Torn(_, _) => return ended(Ending::Refused, steps, 0),
+            Work::Idle(_) | Work::Torn(_, _) => {
+                return Answer {
+                    ending: Ending::Refused,
+                    steps,
+                    stored: 0,
+                };
+            }
             Work::Went(worked, done) => {
                 steps = steps.saturating_add(done);
                 let stored = worked.stored();
-                match worked {
-                    Worked::Searching(j) => job = j,
-                    Worked::Found(j) => return found(&j, file, t, steps, stored),
-                    Worked::NoPlan(_) => return ended(Ending::NoPlan, steps, stored),
-                    Worked::OutOfSpace(_) => return ended(Ending::OutOfSpace, steps, stored),
-                }
+                let ending = match worked {
+                    Worked::Searching(j) => {
+                        job = j;
+                        continue;
+                    }
+                    Worked::Found(j) => found(&j, file, t).unwrap_or(Ending::Refused),
+                    Worked::NoPlan(_) => Ending::NoPlan,
+                    Worked::OutOfSpace(_) => Ending::OutOfSpace,
+                };
+                return Answer {
+                    ending,
+                    steps,
+                    stored,
+                };
             }
         }
     }
-    ended(Ending::Endless, steps, 0)
+    Answer {
+        ending: Ending::Endless,
+        steps,
+        stored: 0,
+    }
 }
 
 // Opens a job in new tables, and works it to its end.
@@ -118,7 +115,11 @@ pub fn work_out<K: Cost, S: Store, Q: Queue<K>>(
     t: &mut Tables<'_, K, S, Q>,
 ) -> Answer {
     match open(file, t) {
-        Err(_) => ended(Ending::Refused, 0, 0),
         Ok(job) => finish(job, file, t),
+        Err(_) => Answer {
+            ending: Ending::Refused,
+            steps: 0,
+            stored: 0,
+        },
     }
 }

@@ -5,7 +5,7 @@
 mod answers;
 mod tasks;
 
-use answers::{Answer, Ending, LONGEST, same, work_out};
+use answers::{Answer, Ending, work_out};
 use cost::costs::Cost;
 use cost::peak::Peak;
 use cost::spend::Spend;
@@ -20,7 +20,7 @@ use steps::tables::{Record, Tables};
 use store::row_store::RowStore;
 use store::stores::Store;
 use task::{name, write};
-use tasks::{CASES, Case, nth};
+use tasks::{Case, cases};
 use trie::cells::Cell;
 use trie::tries::Trie;
 
@@ -29,53 +29,22 @@ const NODES: usize = 256;
 
 const BYTES: usize = 2048;
 
-// A make of store and one of queue.
-#[derive(Clone, Copy)]
-struct Makes {
-    name: &'static str,
-    trie: bool,
-    heap: bool,
-}
-
-// How many pairs there are.
-const PAIRS: u8 = 4;
-
-// The pair of this number, from 0.
-fn makes_of(k: u8) -> Makes {
-    match k {
-        0 => Makes {
-            name: "row store, scanned row",
-            trie: false,
-            heap: false,
-        },
-        1 => Makes {
-            name: "row store, heap",
-            trie: false,
-            heap: true,
-        },
-        2 => Makes {
-            name: "trie, scanned row",
-            trie: true,
-            heap: false,
-        },
-        _ => Makes {
-            name: "trie, heap",
-            trie: true,
-            heap: true,
-        },
-    }
+// The records that a job may fill and the entries that its queue may hold.
+#[derive(Drop)]
+struct Nodes<'m, K> {
+    records: &'m mut [Record<K>],
+    entries: &'m mut [Entry<K>],
 }
 
 // What is told of a file in new tables.
-fn told<'m, K: Cost, S: Store + Drop, Q: Queue<K> + Drop>(
+fn told<K: Cost, S: Store + Drop, Q: Queue<K> + Drop>(
     file: &[u8],
-    rows: &'m mut [u8],
-    records: &'m mut [Record<K>],
+    records: &mut [Record<K>],
     store: S,
     queue: Q,
 ) -> Answer {
     let mut t = Tables {
-        rows,
+        rows: &mut [0; BYTES],
         records,
         store,
         queue,
@@ -88,51 +57,6 @@ fn told<'m, K: Cost, S: Store + Drop, Q: Queue<K> + Drop>(
         queue: _,
     } = t;
     a
-}
-
-// The same, with a queue of either make.
-fn told_over<K: Cost, S: Store + Drop>(
-    file: &[u8],
-    records: &mut [Record<K>],
-    entries: &mut [Entry<K>],
-    store: S,
-    heap: bool,
-) -> Answer {
-    let mut rows = [0; BYTES];
-    if heap {
-        told(file, &mut rows, records, store, Heap::new(entries))
-    } else {
-        told(file, &mut rows, records, store, ScannedRow::new(entries))
-    }
-}
-
-// The same, with a store of either make.
-fn told_in<K: Cost>(
-    m: Makes,
-    file: &[u8],
-    values: &[u8],
-    records: &mut [Record<K>],
-    entries: &mut [Entry<K>],
-) -> Answer {
-    if m.trie {
-        let mut cells = [Cell::blank(); BYTES];
-        told_over(
-            file,
-            records,
-            entries,
-            Trie::new(values, &mut cells),
-            m.heap,
-        )
-    } else {
-        let mut bytes = [0; BYTES];
-        told_over(
-            file,
-            records,
-            entries,
-            RowStore::new(values, &mut bytes),
-            m.heap,
-        )
-    }
 }
 
 // Prints the moves of a plan by name.
@@ -149,67 +73,73 @@ fn show_plan(rt: &HostRuntime, file: &[u8], plan: &[u16]) -> io::Result<()> {
 
 // Prints what was told in a pair of makes, on a line of its own.
 fn show(rt: &HostRuntime, makes: &str, file: &[u8], a: &Answer) -> io::Result<()> {
-    let word = a.ending.word();
+    let ending = &a.ending;
     let steps = a.steps;
     let stored = a.stored;
-    print!(rt; "\n  {makes}: {word} in step {steps}, nodes {stored}")?;
-    if !matches!(a.ending, Ending::Found) {
-        return Ok(());
+    print!(rt; "\n  {makes}: {ending} in step {steps}, nodes {stored}")?;
+    if let Ending::Found { amount, plan } = ending {
+        print!(rt; ", cost {amount}:")?;
+        show_plan(rt, file, plan)?;
     }
-    let amount = a.amount;
-    print!(rt; ", cost {amount}:")?;
-    show_plan(rt, file, &a.plan[0..a.count.min(LONGEST)])
+    Ok(())
 }
 
-// A file in each pair of makes: a line for each, and whether they told the same.
-fn show_pairs<K: Cost>(
-    rt: &HostRuntime,
+// What is told of a task's file in each pair of makes, with as many records as the task has space for nodes.
+fn told_in_pairs<K: Cost>(
     file: &[u8],
-    values: &[u8],
-    records: &mut [Record<K>],
-    entries: &mut [Entry<K>],
-) -> io::Result<()> {
-    let first = told_in(makes_of(0), file, values, records, entries);
-    let mut all = true;
-    for k in 0..PAIRS {
-        let a = told_in(makes_of(k), file, values, records, entries);
-        show(rt, makes_of(k).name, file, &a)?;
-        all = all && same(&a, &first);
-    }
-    println!(rt; "\n  all the same: {all}")
+    c: &Case,
+    nodes: &mut Nodes<'_, K>,
+) -> [(&'static str, Answer); 4] {
+    let records = &mut *nodes.records;
+    let entries = &mut *nodes.entries;
+    let n = c.capacity.min(records.len());
+    let values = c.task.values;
+    let mut bytes = [0; BYTES];
+    let mut cells = [Cell::blank(); BYTES];
+    let rows = RowStore::new(values, &mut bytes);
+    let first = told(file, &mut records[..n], rows, ScannedRow::new(entries));
+    let rows = RowStore::new(values, &mut bytes);
+    let second = told(file, &mut records[..n], rows, Heap::new(entries));
+    let trie = Trie::new(values, &mut cells);
+    let third = told(file, &mut records[..n], trie, ScannedRow::new(entries));
+    let trie = Trie::new(values, &mut cells);
+    let fourth = told(file, &mut records[..n], trie, Heap::new(entries));
+    [
+        ("row store, scanned row", first),
+        ("row store, heap", second),
+        ("trie, scanned row", third),
+        ("trie, heap", fourth),
+    ]
 }
 
-// A task in one kind of cost, with as many of these records as it has space for nodes.
+// A line for each pair of makes, and whether they told the same.
+fn show_pairs(rt: &HostRuntime, file: &[u8], answers: &[(&'static str, Answer)]) -> io::Result<()> {
+    for (makes, a) in answers {
+        show(rt, makes, file, a)?;
+    }
+    let same = answers.windows(2).all(|pair| pair[0].1 == pair[1].1);
+    println!(rt; "\n  all the same: {same}")
+}
+
+// A task in one kind of cost.
 fn show_case<K: Cost>(
     rt: &HostRuntime,
     kind: &str,
     c: &Case,
-    records: &mut [Record<K>],
-    entries: &mut [Entry<K>],
+    nodes: &mut Nodes<'_, K>,
 ) -> io::Result<()> {
     let title = c.title;
     print!(rt; "{kind}, {title}")?;
     let mut bytes = [0; 256];
     let length = write(&c.task, &mut bytes).unwrap_or(0).min(256);
-    let n = c.capacity.min(records.len());
-    show_pairs(
-        rt,
-        &bytes[0..length],
-        c.task.values,
-        &mut records[0..n],
-        entries,
-    )
+    let file = &bytes[..length];
+    show_pairs(rt, file, &told_in_pairs(file, c, nodes))
 }
 
 // All tasks in one kind of cost.
-fn show_kind<K: Cost>(
-    rt: &HostRuntime,
-    kind: &str,
-    records: &mut [Record<K>],
-    entries: &mut [Entry<K>],
-) -> io::Result<()> {
-    for k in 0..CASES {
-        show_case(rt, kind, &nth(k), records, entries)?;
+fn show_kind<K: Cost>(rt: &HostRuntime, kind: &str, nodes: &mut Nodes<'_, K>) -> io::Result<()> {
+    for c in cases() {
+        show_case(rt, kind, &c, nodes)?;
     }
     Ok(())
 }
@@ -230,22 +160,19 @@ fn no_entry<K: Cost>() -> Entry<K> {
 }
 
 fn main(rt: HostRuntime) -> io::Result<()> {
-    show_kind::<Spend>(
-        &rt,
-        "Spend",
-        &mut [no_record(); NODES],
-        &mut [no_entry(); NODES],
-    )?;
-    show_kind::<SpendThenMoves>(
-        &rt,
-        "SpendThenMoves",
-        &mut [no_record(); NODES],
-        &mut [no_entry(); NODES],
-    )?;
-    show_kind::<Peak>(
-        &rt,
-        "Peak",
-        &mut [no_record(); NODES],
-        &mut [no_entry(); NODES],
-    )
+    let mut spends = Nodes::<Spend> {
+        records: &mut [no_record(); NODES],
+        entries: &mut [no_entry(); NODES],
+    };
+    show_kind(&rt, "Spend", &mut spends)?;
+    let mut spends_then_moves = Nodes::<SpendThenMoves> {
+        records: &mut [no_record(); NODES],
+        entries: &mut [no_entry(); NODES],
+    };
+    show_kind(&rt, "SpendThenMoves", &mut spends_then_moves)?;
+    let mut peaks = Nodes::<Peak> {
+        records: &mut [no_record(); NODES],
+        entries: &mut [no_entry(); NODES],
+    };
+    show_kind(&rt, "Peak", &mut peaks)
 }

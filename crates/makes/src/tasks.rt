@@ -1,7 +1,8 @@
 // The tasks that are worked: the sample line, variations of it, and six gates.
+use rows::checks::MARK;
 use task::tables::Task;
 
-const U: u8 = 255;
+const U: u8 = MARK;
 
 // A task, and the space for nodes that it is worked in.
 #[derive(Clone, Copy)]
@@ -85,18 +86,14 @@ fn titled(title: &'static str, capacity: usize, task: Task<'static>) -> Case {
     }
 }
 
-// How many tasks there are.
-pub const CASES: u8 = 7;
-
-// The task of this number, from 0.
-pub fn nth(k: u8) -> Case {
-    match k {
-        0 => titled("the sample line", 16, sample_line()),
-        1 => titled("carry at 10", 16, cheap_carry()),
-        2 => titled("only open and tip", 16, open_and_tip()),
-        3 => titled("a goal that fixes nothing", 16, no_goal()),
-        4 => titled("the sample line, space for 4 nodes", 4, sample_line()),
-        5 => titled("the sample line, space for 5 nodes", 5, sample_line()),
-        _ => titled("six gates", 256, six_gates()),
-    }
+pub fn cases() -> [Case; 7] {
+    [
+        titled("the sample line", 16, sample_line()),
+        titled("carry at 10", 16, cheap_carry()),
+        titled("only open and tip", 16, open_and_tip()),
+        titled("a goal that fixes nothing", 16, no_goal()),
+        titled("the sample line, space for 4 nodes", 4, sample_line()),
+        titled("the sample line, space for 5 nodes", 5, sample_line()),
+        titled("six gates", 256, six_gates()),
+    ]
 }

@@ -12,5 +12,5 @@ pub fn bytes_at(values: u8) -> u16
     ensures lawful { RegressionIsLawful }
 {
     lawful();
-    values as u16 + 1
+    u16::from(values) + 1
 }

@@ -1,4 +1,3 @@
 pub mod Searches
 pub mod Pushes
-pub mod Fills
 pub mod Known

@@ -12,11 +12,9 @@ pub fn keep_unless_covered<S: Store>(s: &mut S, row: &[u8]) -> Result<Option<u16
     ensures space { S.space s.new ≡ S.space s.old }
     ensures lender { S.lender s.new ≡ S.lender s.old }
 {
-    match s.cover(row)? {
-        Some(r) => Ok(Some(r)),
-        None => match s.keep(row) {
-            Ok(()) => Ok(None),
-            Err(e) => Err(e),
-        },
+    let rank = s.cover(row)?;
+    if rank.is_none() {
+        s.keep(row)?;
     }
+    Ok(rank)
 }

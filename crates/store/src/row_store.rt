@@ -1,11 +1,12 @@
 ghost use Rattle.std.specs.Prelude.{◌≡◌, ◌+◌, ◌*◌, ◌<◌, ◌≤◌, [], length, MatchBool};
 ghost use Rattle.store.specs.Stores.{Distinct, AllFit, Holds, space_of};
-ghost use Rattle.store.specs.Blocks.{rows_of};
+ghost use Rattle.store.specs.Blocks.{row_at, rows_of};
 ghost use Rattle.store.specs.Laws.{row_lawful};
 
 use crate::capacity::capacity_of;
 use crate::stores::Store;
-use rows::checks::{MARK, fits};
+use rows::checks::fits;
+use rows::inner::row_covers;
 use rows::refusals::Refusal;
 
 // Rows one after the other in lent bytes.
@@ -41,22 +42,22 @@ impl<'t, 'm> RowStore<'t, 'm> {
 }
 
 impl RowStore<'_, '_> {
+    // The kept row of rank r.
+    fn row_at(&self, r: usize) -> &[u8]
+        requires { r < self.now.count }
+        ensures { result.now ≡ row_at (length self.now.values.now) self.now.bytes.now r }
+    {
+        let width = self.values.len();
+        let at = r * width;
+        &self.bytes[at..at + width]
+    }
+
     // Whether a kept row equals the row.
     fn holds(&self, row: &[u8]) -> bool
         requires { length row.now ≡ length self.now.values.now }
         ensures { MatchBool result (Holds (rows_of (length self.now.values.now) self.now.count self.now.bytes.now) row.now) (Holds (rows_of (length self.now.values.now) self.now.count self.now.bytes.now) row.now → ⊥) }
     {
-        let width = self.values.len();
-        'rows: for r in 0..self.count {
-            let at = r * width;
-            for v in 0..width {
-                if self.bytes[at + v] != row[v] {
-                    continue 'rows;
-                }
-            }
-            return true;
-        }
-        false
+        (0..self.count).any(|r| self.row_at(r) == row)
     }
 }
 
@@ -75,18 +76,11 @@ impl<'t, 'm> Store for RowStore<'t, 'm> {
         if !fits(self.values, row) {
             return Err(Refusal::Misfit);
         }
-        let width = self.values.len();
-        'rows: for r in 0..self.count {
-            let at = r * width;
-            for v in 0..row.len() {
-                let b = self.bytes[at + v];
-                if b != MARK && b != row[v] {
-                    continue 'rows;
-                }
-            }
-            return Ok(Some(r as u16));
-        }
-        Ok(None)
+        Ok(
+            (0..self.count)
+                .find(|r| row_covers(self.row_at(*r), row))
+                .map(|r| r as u16),
+        )
     }
 
     // The bytes past the kept rows are written first: until the count is raised, the store means what it did.
@@ -94,7 +88,6 @@ impl<'t, 'm> Store for RowStore<'t, 'm> {
         if !fits(self.values, row) {
             return Err(Refusal::Misfit);
         }
-        let width = self.values.len();
         let n = self.count;
         if self.holds(row) {
             return Err(Refusal::Known);
@@ -102,10 +95,8 @@ impl<'t, 'm> Store for RowStore<'t, 'm> {
         if n >= self.space {
             return Err(Refusal::Full);
         }
-        let at = n * width;
-        for v in 0..width {
-            self.bytes[at + v] = row[v];
-        }
+        let at = n * row.len();
+        self.bytes[at..at + row.len()].copy_from_slice(row);
         self.count = n + 1;
         Ok(())
     }

@@ -11,12 +11,27 @@ mod measure;
 use rows::checks::MARK;
 use rows::refusals::Refusal;
 use std::mem::size_of;
-use std::{env, io};
+use std::{env, fmt, io};
 use store::keeping::keep_unless_covered;
 use store::row_store::RowStore;
 use store::stores::Store;
 use trie::cells::Cell;
 use trie::tries::Trie;
+
+// What both makes of store are lent.
+#[derive(Drop)]
+struct Memory<'m> {
+    bytes: &'m mut [u8],
+    cells: &'m mut [Cell],
+}
+
+impl Memory<'_> {
+    // A new store of each make over this values table.
+    fn stores<'s>(&'s mut self, values: &'s [u8]) -> (RowStore<'s, 's>, Trie<'s, 's>) {
+        let Memory { bytes, cells } = self;
+        (RowStore::new(values, bytes), Trie::new(values, cells))
+    }
+}
 
 #[derive(Clone, Copy)]
 enum Call {
@@ -66,10 +81,7 @@ fn steps() -> [Step; 18] {
 fn answer<S: Store>(s: &mut S, step: &Step) -> Result<Option<u16>, Refusal> {
     match step.call {
         Call::Cover => s.cover(&step.row),
-        Call::Keep => match s.keep(&step.row) {
-            Ok(()) => Ok(None),
-            Err(e) => Err(e),
-        },
+        Call::Keep => s.keep(&step.row).map(|_| None),
         Call::KeepUnlessCovered => keep_unless_covered(s, &step.row),
     }
 }
@@ -93,26 +105,34 @@ fn show_answer(
     }
 }
 
-fn show_step(rt: &HostRuntime, step: &Step) -> io::Result<()> {
-    match step.call {
-        Call::Cover => print!(rt; "cover")?,
-        Call::Keep => print!(rt; "keep")?,
-        Call::KeepUnlessCovered => print!(rt; "keep unless covered")?,
-    }
-    for b in step.row {
-        if b == MARK {
-            print!(rt; " u")?;
-        } else {
-            print!(rt; " {b}")?;
+impl fmt::Display for Call {
+    fn fmt<W: fmt::Write>(&self, f: &mut fmt::Formatter<W>) -> fmt::Result {
+        match self {
+            Call::Cover => write!(f, "cover"),
+            Call::Keep => write!(f, "keep"),
+            Call::KeepUnlessCovered => write!(f, "keep unless covered"),
         }
     }
-    Ok(())
+}
+
+impl fmt::Display for Step {
+    fn fmt<W: fmt::Write>(&self, f: &mut fmt::Formatter<W>) -> fmt::Result {
+        write!(f, "{}", self.call)?;
+        for b in self.row {
+            if b == MARK {
+                write!(f, " u")?;
+            } else {
+                write!(f, " {b}")?;
+            }
+        }
+        Ok(())
+    }
 }
 
 fn compare<S: Store, T: Store>(rt: &HostRuntime, rows: &mut S, trie: &mut T) -> io::Result<()> {
     println!(rt; "call | row store | trie")?;
     for step in steps() {
-        show_step(rt, &step)?;
+        print!(rt; "{step}")?;
         let first = answer(rows, &step);
         show_answer(rt, step.call, first)?;
         let second = answer(trie, &step);
@@ -142,38 +162,31 @@ fn trie_capacity(values: &[u8], cells: &mut [Cell]) -> usize
     trie.capacity()
 }
 
-// The capacities of both makes over this values table, in as many bytes and cells.
-fn capacities(
-    rt: &HostRuntime,
-    name: &str,
-    values: &[u8],
-    bytes: &mut [u8],
-    cells: &mut [Cell],
-) -> io::Result<()> {
-    let a = row_capacity(values, bytes);
-    let b = trie_capacity(values, cells);
+// The capacities of both makes over this values table, in that memory.
+fn capacities(rt: &HostRuntime, name: &str, values: &[u8], memory: &mut Memory) -> io::Result<()> {
+    let a = row_capacity(values, memory.bytes);
+    let b = trie_capacity(values, memory.cells);
     println!(rt; "{name} | {a} | {b}")
 }
 
 fn show(rt: &HostRuntime) -> io::Result<()> {
     let values = [2u8, 3, 4];
-    let mut bytes = [7u8; 17];
-    let mut cells = [Cell::blank(); 18];
-    let mut rows = RowStore::new(&values, &mut bytes);
-    let mut trie = Trie::new(&values, &mut cells);
+    let mut memory = Memory {
+        bytes: &mut [7; 17],
+        cells: &mut [Cell::blank(); 18],
+    };
+    let (mut rows, mut trie) = memory.stores(&values);
     compare(rt, &mut rows, &mut trie)?;
     print!(rt; "cover 0 0")?;
     show_answer(rt, Call::Cover, rows.cover(&[0, 0]))?;
     show_answer(rt, Call::Cover, trie.cover(&[0, 0]))?;
     println!(rt; "")?;
-    show_again(rt, &mut bytes, &mut cells)
+    show_again(rt, &mut memory)
 }
 
 // New stores over another values table, in memory that others have used.
-fn show_again(rt: &HostRuntime, bytes: &mut [u8], cells: &mut [Cell]) -> io::Result<()> {
-    let values = [1u8];
-    let mut rows = RowStore::new(&values, bytes);
-    let mut trie = Trie::new(&values, cells);
+fn show_again(rt: &HostRuntime, memory: &mut Memory) -> io::Result<()> {
+    let (mut rows, mut trie) = memory.stores(&[1]);
     print!(rt; "new, cover 0")?;
     show_answer(rt, Call::Cover, rows.cover(&[0]))?;
     show_answer(rt, Call::Cover, trie.cover(&[0]))?;
@@ -192,23 +205,23 @@ fn show_again(rt: &HostRuntime, bytes: &mut [u8], cells: &mut [Cell]) -> io::Res
 }
 
 fn show_capacities(rt: &HostRuntime) -> io::Result<()> {
-    let mut bytes = [7u8; 130];
-    let mut cells = [Cell::blank(); 130];
+    let mut memory = Memory {
+        bytes: &mut [7; 130],
+        cells: &mut [Cell::blank(); 130],
+    };
     let size = size_of::<Cell>();
     println!(rt; "bytes in a cell: {size}")?;
     println!(rt; "capacity in 130 | row store | trie")?;
-    capacities(rt, "1 variable", &[9], &mut bytes, &mut cells)?;
-    capacities(rt, "64 variables", &[9; 64], &mut bytes, &mut cells)?;
-    capacities(rt, "65 variables", &[9; 65], &mut bytes, &mut cells)?;
-    capacities(rt, "no variable", &[], &mut bytes, &mut cells)?;
-    capacities(
-        rt,
-        "a variable of no value",
-        &[9, 0],
-        &mut bytes,
-        &mut cells,
-    )?;
-    capacities(rt, "1 variable, in nothing", &[9], &mut [], &mut [])
+    capacities(rt, "1 variable", &[9], &mut memory)?;
+    capacities(rt, "64 variables", &[9; 64], &mut memory)?;
+    capacities(rt, "65 variables", &[9; 65], &mut memory)?;
+    capacities(rt, "no variable", &[], &mut memory)?;
+    capacities(rt, "a variable of no value", &[9, 0], &mut memory)?;
+    let mut nothing = Memory {
+        bytes: &mut [],
+        cells: &mut [],
+    };
+    capacities(rt, "1 variable, in nothing", &[9], &mut nothing)
 }
 
 fn main(rt: HostRuntime) -> io::Result<()> {

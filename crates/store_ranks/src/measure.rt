@@ -1,17 +1,17 @@
 // How long a cover question takes in both makes, as the kept rows grow.
+use crate::Memory;
 use rows::checks::MARK;
 use std::io;
 use std::time::Instant;
-use store::row_store::RowStore;
 use store::stores::Store;
 use trie::cells::Cell;
-use trie::tries::Trie;
 
 const WIDTH: usize = 16;
 
 const QUESTIONS: u32 = 2000;
 
 // Pseudo-random rows over variables of 4 values: one byte in `marks` is the mark.
+// The generator is written out, so that every measurement is of the same rows.
 #[derive(Clone, Copy, Drop)]
 struct Rows {
     state: u64,
@@ -27,15 +27,15 @@ impl Rows {
         (self.state >> 33) as u32
     }
 
-    fn next(&mut self) -> [u8; WIDTH] {
-        let mut row = [0u8; WIDTH];
-        for v in 0..WIDTH {
+    fn row(&mut self) -> [u8; WIDTH] {
+        let mut row = [0; WIDTH];
+        for b in &mut row {
             let n = self.number();
-            if self.marks > 0 && n % self.marks == 0 {
-                row[v] = MARK;
+            *b = if self.marks > 0 && n % self.marks == 0 {
+                MARK
             } else {
-                row[v] = ((n >> 8) % 4) as u8;
-            }
+                ((n >> 8) % 4) as u8
+            };
         }
         row
     }
@@ -45,7 +45,7 @@ impl Rows {
 fn fill<S: Store>(s: &mut S, marks: u32, kept: u32) {
     let mut rows = Rows { state: 1, marks };
     for _ in 0..kept {
-        let _ = s.keep(&rows.next());
+        let _ = s.keep(&rows.row());
     }
 }
 
@@ -54,7 +54,7 @@ fn ask<S: Store>(s: &S) -> u32 {
     let mut rows = Rows { state: 2, marks: 0 };
     let mut covered = 0u32;
     for _ in 0..QUESTIONS {
-        if let Ok(Some(_)) = s.cover(&rows.next()) {
+        if let Ok(Some(_)) = s.cover(&rows.row()) {
             covered = covered.saturating_add(1);
         }
     }
@@ -74,16 +74,8 @@ fn time<S: Store>(rt: &HostRuntime, s: &S) -> io::Result<()> {
     print!(rt; " | {covered} | {each}")
 }
 
-fn line(
-    rt: &HostRuntime,
-    marks: u32,
-    kept: u32,
-    bytes: &mut [u8],
-    cells: &mut [Cell],
-) -> io::Result<()> {
-    let values = [4u8; WIDTH];
-    let mut rows = RowStore::new(&values, bytes);
-    let mut trie = Trie::new(&values, cells);
+fn line(rt: &HostRuntime, marks: u32, kept: u32, memory: &mut Memory) -> io::Result<()> {
+    let (mut rows, mut trie) = memory.stores(&[4; WIDTH]);
     fill(&mut rows, marks, kept);
     fill(&mut trie, marks, kept);
     let count = rows.count();
@@ -97,12 +89,16 @@ pub fn run(rt: &HostRuntime) -> io::Result<()> {
     let heap = rt.alloc();
     let mut bytes = vec![in heap; 0u8; 1048576]?;
     let mut cells = vec![in heap; Cell::blank(); 1048577]?;
+    let mut memory = Memory {
+        bytes: &mut bytes,
+        cells: &mut cells,
+    };
     println!(rt;
         "marks | kept | row store: covered of {QUESTIONS} | ns a question | trie: covered | ns a question"
     )?;
     for marks in [2u32, 4, 16] {
         for kept in [16u32, 64, 256, 1024, 4096, 16384, 65535] {
-            line(rt, marks, kept, &mut bytes, &mut cells)?;
+            line(rt, marks, kept, &mut memory)?;
         }
     }
     Ok(())

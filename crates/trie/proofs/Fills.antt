@@ -1,8 +1,9 @@
 -- The steps of keeping a row in a trie.
-use Rattle.std.proofs.Common.{◌≡◌, ℕ, ◌+◌, ◌-◌, ◌*◌, ◌/◌, ◌<◌, ◌≤◌, min, Bool, true, false, cond, ◌&&◌, ltb, leb, ◌≢◌, List, [], ◌∷◌, ◌++◌, length, get_or, set, sym, refl, ap, ◌∙◌, subst, mul-le-mul_right, add-mul, one-mul, arith}
+use Rattle.std.proofs.Common.{◌≡◌, ℕ, ◌+◌, ◌-◌, ◌*◌, ◌/◌, ◌<◌, ◌≤◌, min, Bool, true, false, cond, ◌&&◌, ltb, leb, ◌≢◌, List, [], ◌∷◌, ◌++◌, length, get_or, get_or-take, get_or-drop, take, drop, set, sym, refl, ap, ◌∙◌, subst, mul-le-mul_right, add-mul, one-mul, arith}
 use Rattle.std.proofs.lemmas.Bool.{and_parts, ltb-true, leb-true}
 use Rattle.std.proofs.lemmas.List.{get_or-set_other, length-set}
-use Rattle.rows.specs.Rows.{fits, usable, valued}
+use Rattle.rows.specs.Rows.{fits, fits_at, usable, valued}
+use Rattle.rows.proofs.Both.{both_length}
 use Rattle.store.specs.Stores.{space_of}
 use Rattle.store.specs.Laws.{space_short}
 use Rattle.trie.specs.declared.cells.Cell.{Cell}
@@ -41,6 +42,18 @@ space_next a k h l =
     let f : 1 + (a.count + 1) * w ≤ length a.cells.now = space_for a.values.now (length a.cells.now) a.space (a.count + 1) a.measured (omega arith) (omega arith) in
     omega (arith, f, (of a).few, add-mul a.count 1 w, one-mul w)
 
+-- where the i-th new cell of a row lies: a place of 32 bits, inside the cells
+module _ (a : Trie) (row : List ℕ) (level i : ℕ) (fit : fits a.values.now row ≡ true) (spare : a.count < a.space) (h : i < length row - level) where
+  pub place : a.used + (i + 1) ≤ 4194241
+  place = short a (i + 1) spare (omega (arith, both_length fits_at a.values.now row fit))
+
+  pub fresh_place : a.used + i < length a.cells.now
+  fresh_place = omega (arith, space_next a (i + 1) spare (omega (arith, both_length fits_at a.values.now row fit)))
+
+-- a way that ends before the row does lies above the last level
+pub shallow : (a : Trie) (row : List ℕ) (c l : ℕ) → fits a.values.now row ≡ true → Deepest a.values.now row a.cells.now a.used c l → (l ≢ length row) → l < length a.values.now
+shallow a row c l f d n = omega (arith, d.deep, both_length fits_at a.values.now row f)
+
 -- what the ghost fields ask
 pub record Asked (values : List ℕ) (cells : List Cell) (space used count : ℕ) : Type 0 where
   pub measured : space ≡ space_of values (length cells - 1)
@@ -67,6 +80,10 @@ pub record Filling (a s : Trie) (row : List ℕ) (head level k i : ℕ) : Type 0
   pub long : length s.cells.now ≡ length a.cells.now
   pub old : (x : ℕ) → x < a.used → at s.cells.now x ≡ at a.cells.now x
   pub new : (j : ℕ) → j < i → at s.cells.now (a.used + j) ≡ linked head a.used k a.count j (get_or row (level + j) 0)
+
+-- byte i of the row from the level on
+pub rest_byte : (row : List ℕ) (level i : ℕ) → i < length row - level → get_or (take (length row - level) (drop level row)) i 0 ≡ get_or row (level + i) 0
+rest_byte row level i h = rw (get_or-take, get_or-drop)
 
 abbrev pub hung_in : List Cell → ℕ → ℕ → List Cell
 hung_in cs c v = set cs c (headed (at cs c) v)

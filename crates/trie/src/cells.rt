@@ -2,6 +2,7 @@ ghost use Rattle.std.specs.Prelude.{◌≡◌};
 ghost use Rattle.trie.specs.Cells.{blank};
 
 // A place in a trie: 12 bytes. Memory is handed to a trie as a slice of these, whatever they hold.
+// A cell names others by their places, in 32 bits, since a device has no heap to own them; `usize` has no From for such a number.
 #[derive(Clone, Copy)]
 pub struct Cell {
     // the newest branch, or 0

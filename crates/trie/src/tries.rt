@@ -47,7 +47,7 @@ impl<'t, 'm> Trie<'t, 'm> {
 
 impl Trie<'_, '_> {
     // Looks into the cell c, which lies in the level `level`: the rank of a covering row that goes by it.
-    #[cycle(along_look)]
+    // It goes one variable deeper into the branch of the mark and that of the row's byte.
     fn look(&self, row: &[u8], c: usize, level: usize) -> Option<u16>
         requires { Looks self.now.values.now row.now self.now.cells.now self.now.used self.now.count c level }
         ensures { Looked self.now.values.now row.now self.now.cells.now self.now.used self.now.count c level result }
@@ -55,28 +55,21 @@ impl Trie<'_, '_> {
         if level >= self.values.len() {
             return Some(self.cells[c].rank);
         }
-        self.along(row, self.cells[c].head as usize, level)
-    }
-
-    // Goes along the branches from b on, and one variable deeper into that of the mark and that of the row's byte.
-    #[cycle(along_look)]
-    fn along(&self, row: &[u8], b: usize, level: usize) -> Option<u16>
-        requires { Goes self.now.values.now row.now self.now.cells.now self.now.used self.now.count b level }
-        ensures { Gone self.now.values.now row.now self.now.cells.now self.now.used self.now.count b level result }
-    {
-        if b == 0 {
-            return None;
-        }
-        let cell = self.cells[b];
-        if leads(cell.byte, row[level]) {
-            if let Some(r) = self.look(row, b, level + 1) {
-                return Some(r);
+        let mut b = self.cells[c].head as usize;
+        while b != 0 {
+            let cell = self.cells[b];
+            if leads(cell.byte, row[level]) {
+                if let Some(r) = self.look(row, b, level + 1) {
+                    return Some(r);
+                }
             }
+            b = cell.next as usize;
         }
-        self.along(row, cell.next as usize, level)
+        None
     }
 
     // The branch of the cell c with that byte.
+    // As in `look`, a plain loop goes along the branches: an iterator of them, with its own proof, would be longer than both loops.
     fn branch(&self, c: usize, byte: u8) -> Option<usize>
         requires some { 0 < self.now.space }
         requires within { c < self.now.used }
@@ -100,8 +93,8 @@ impl Trie<'_, '_> {
         ensures { Deepest self.now.values.now row.now self.now.cells.now self.now.used result.0 result.1 }
     {
         let mut c = 0;
-        for level in 0..row.len() {
-            let Some(b) = self.branch(c, row[level]) else {
+        for (level, byte) in row.iter().enumerate() {
+            let Some(b) = self.branch(c, *byte) else {
                 return (c, level);
             };
             c = b;
@@ -123,10 +116,15 @@ impl Trie<'_, '_> {
     {
         let from = self.used;
         let rank = self.count;
-        let head = self.cells[c].head;
         let k = row.len() - level;
-        for i in 0..k {
-            self.cells[from + i] = link(head, from, k, rank as u16, i, row[level + i]);
+        let new = NewCells {
+            head: self.cells[c].head,
+            from,
+            k,
+            rank: rank as u16,
+        };
+        for (i, byte) in row[level..].iter().enumerate() {
+            self.cells[from + i] = new.cell(i, *byte);
         }
         self.cells[c].head = from as u32;
         self.used = from + k;
@@ -139,8 +137,8 @@ fn plant(cells: &mut [Cell])
     ensures root { cells.new ≡ slice_set cells.old 0 blank }
     ensures sound { (values : List ℕ) → IsSound values cells.new 1 0 }
 {
-    if cells.len() > 0 {
-        cells[0] = Cell::blank();
+    if let Some(root) = cells.first_mut() {
+        *root = Cell::blank();
     }
 }
 
@@ -151,24 +149,32 @@ fn leads(byte: u8, asked: u8) -> bool
     byte == MARK || byte == asked
 }
 
-// The i-th of the k new cells of a row, which lie from the place `from` on; `head` is the branch that was the newest until now.
-fn link(head: u32, from: usize, k: usize, rank: u16, i: usize, byte: u8) -> Cell
-    requires { from + i + 1 < 2 ^ 32 }
-    ensures { result ≡ linked head from k rank i byte }
-{
-    let mut next = head;
-    if i > 0 {
-        next = 0;
-    }
-    let mut below = 0;
-    if i + 1 < k {
-        below = (from + i + 1) as u32;
-    }
-    Cell {
-        head: below,
-        next,
-        rank,
-        byte,
+// The new cells of a row: k of them, which lie from the place `from` on. The first becomes the newest branch of a cell whose newest
+// one is `head` until now.
+#[derive(Clone, Copy)]
+struct NewCells {
+    head: u32,
+    from: usize,
+    k: usize,
+    rank: u16,
+}
+
+impl NewCells {
+    // The i-th of these cells.
+    fn cell(self, i: usize, byte: u8) -> Cell
+        requires { self.from + i + 1 < 2 ^ 32 }
+        ensures { result ≡ linked self.head self.from self.k self.rank i byte }
+    {
+        Cell {
+            head: if i + 1 < self.k {
+                (self.from + i + 1) as u32
+            } else {
+                0
+            },
+            next: if i == 0 { self.head } else { 0 },
+            rank: self.rank,
+            byte,
+        }
     }
 }
 

@@ -53,10 +53,7 @@ pub fn ample_capacity<S: Setting>(rows: u64, moves: u64) -> Option<u64>
     ensures orderly { RunsAreOrderly S.Setting.arithmetic S.Setting.space }
 {
     few_nodes::<S>();
-    match rows.checked_mul(moves) {
-        Some(n) => n.checked_add(1),
-        None => None,
-    }
+    rows.checked_mul(moves)?.checked_add(1)
 }
 
 // Holds the proof that a run ends.
@@ -70,7 +67,7 @@ pub fn last_step<S: Setting>(capacity: u16) -> u32
     ensures ends { EndsBy S.Setting.arithmetic S.Setting.space capacity result }
 {
     ends_by::<S>(capacity);
-    capacity as u32 + 1
+    u32::from(capacity) + 1
 }
 
 // Holds the proof of how many moves a cost joins.

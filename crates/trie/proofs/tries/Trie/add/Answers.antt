@@ -2,9 +2,9 @@ use Rattle.std.proofs.Common.{◌+◌, ◌-◌, ◌<◌, ◌≤◌, ◌≢◌, l
 use Rattle.std.proofs.lemmas.List.{get_or-set_same, get_or-set_other, length-set}
 use Rattle.rows.specs.Rows.{fits_at}
 use Rattle.rows.proofs.Both.{both_length}
-use Rattle.trie.specs.Cells.{blank}
+use Rattle.trie.specs.Cells.{at, blank, linked}
 use Rattle.trie.proofs.Descents.{reach}
-use Rattle.trie.proofs.Fills.{short, space_next, still, hung}
+use Rattle.trie.proofs.Fills.{short, place, fresh_place, still, hung, rest_byte}
 use Rattle.trie.proofs.tries.Trie.add.Goals as goal
 
 pub overflow_sub-k : goal.overflow_sub-k
@@ -12,49 +12,46 @@ overflow_sub-k c =
     let e = both_length fits_at c.args.self.now.values.now c.args.row.now c.requires.fit in
     omega (arith, c.requires.fresh)
 
+pub slice_bounds-byte-items-count : goal.slice_bounds-byte-items-count
+slice_bounds-byte-items-count c =
+    let e = both_length fits_at c.args.self.now.values.now c.args.row.now c.requires.fit in
+    omega (arith, c.requires.fresh)
+
+pub slice_bounds-byte-items-start : goal.slice_bounds-byte-items-start
+slice_bounds-byte-items-start c =
+    let l : c.args.level ≤ length c.args.row.now = slice_bounds-byte-items-count c in
+    search rules
+
 pub bounds-self-c : goal.bounds-self-c
 bounds-self-c c = let a = c.args.self.now in omega (arith, reach a (omega (arith, c.requires.spare)), c.requires.way.within)
 
 pub offset_bounds-self-c : goal.offset_bounds-self-c
 offset_bounds-self-c c =
-    let a = c.args.self.now in
-    let i : c.args.c ≤ 4194241 = omega (arith, short a 0 c.requires.spare (omega arith), c.requires.way.within) in
+    let i : c.args.c ≤ 4194241 = omega (arith, short c.args.self.now 0 c.requires.spare (omega arith), c.requires.way.within) in
     search rules
 
--- the new cells lie inside, and their places are numbers of 32 bits
-pub link-requires : goal.link-requires
-link-requires c =
-    let a = c.args.self.now in
-    let e = both_length fits_at a.values.now c.args.row.now c.requires.fit in
-    let k : c.loop-i.i + 1 ≤ length a.values.now = omega (arith, c.loop-i-test.true) in
-    let i : a.used + (c.loop-i.i + 1) ≤ 4194241 = short a (c.loop-i.i + 1) c.requires.spare k in
+pub cell-requires : goal.cell-requires
+cell-requires c =
+    let i = place c.args.self.now c.args.row.now c.args.level c.loop-i.i c.requires.fit c.requires.spare (omega (arith, c.loop-i-test.true)) in
     search rules
 
 pub overflow_add-from : goal.overflow_add-from
 overflow_add-from c =
-    let a = c.args.self.now in
-    let e = both_length fits_at a.values.now c.args.row.now c.requires.fit in
-    let k : c.loop-i.i + 1 ≤ length a.values.now = omega (arith, c.loop-i-test.true) in
-    let i : a.used + (c.loop-i.i + 1) ≤ 4194241 = short a (c.loop-i.i + 1) c.requires.spare k in
+    let i = place c.args.self.now c.args.row.now c.args.level c.loop-i.i c.requires.fit c.requires.spare (omega (arith, c.loop-i-test.true)) in
     search rules
 
 pub offset_bounds-self-from : goal.offset_bounds-self-from
 offset_bounds-self-from c =
-    let a = c.args.self.now in
-    let e = both_length fits_at a.values.now c.args.row.now c.requires.fit in
-    let k : c.loop-i.i + 1 ≤ length a.values.now = omega (arith, c.loop-i-test.true) in
-    let i : a.used + (c.loop-i.i + 1) ≤ 4194241 = short a (c.loop-i.i + 1) c.requires.spare k in
+    let i = place c.args.self.now c.args.row.now c.args.level c.loop-i.i c.requires.fit c.requires.spare (omega (arith, c.loop-i-test.true)) in
     search rules
 
 pub bounds-self-from : goal.bounds-self-from
 bounds-self-from c =
-    let a = c.args.self.now in
-    let e = both_length fits_at a.values.now c.args.row.now c.requires.fit in
-    omega (arith, space_next a (length c.args.row.now - c.args.level) c.requires.spare (omega arith), c.loop-i.invariant.long, c.loop-i-test.true)
+    omega (arith, fresh_place c.args.self.now c.args.row.now c.args.level c.loop-i.i c.requires.fit c.requires.spare (omega (arith, c.loop-i-test.true)), c.loop-i.invariant.long)
 
 pub invariant_of-self : goal.invariant_of-self
 invariant_of-self c =
-    let t = still c.loop-i.self (c.args.self.now.used + c.loop-i.i) c.link.result (omega (arith, c.loop-i.invariant.used)) in
+    let t = still c.loop-i.self (c.args.self.now.used + c.loop-i.i) c.cell.result (omega (arith, c.loop-i.invariant.used)) in
     record { measured = t.measured; inside = t.inside; sound = t.sound }
 
 pub loop-i-preserved : goal.loop-i-preserved
@@ -63,9 +60,9 @@ loop-i-preserved c =
     let s = c.loop-i.self in
     let w = c.loop-i.invariant in
     let i = c.loop-i.i in
-    let e = both_length fits_at a.values.now c.args.row.now c.requires.fit in
-    let h : a.used + i < length s.cells.now =
-    omega (arith, space_next a (length c.args.row.now - c.args.level) c.requires.spare (omega arith), w.long, c.loop-i-test.true) in
+    let t : i < length c.args.row.now - c.args.level = omega (arith, c.loop-i-test.true) in
+    let h : a.used + i < length s.cells.now = omega (arith, fresh_place a c.args.row.now c.args.level i c.requires.fit c.requires.spare t, w.long) in
+    let b = ap (linked (at a.cells.now c.args.c).head a.used (length c.args.row.now - c.args.level) a.count i) (rest_byte c.args.row.now c.args.level i t) in
     record {
       values = w.values;
       space = w.space;
@@ -73,22 +70,20 @@ loop-i-preserved c =
       count = w.count;
       lender = w.lender;
       long = length-set _ _ _ ∙ w.long;
-      old = λ x l. let ne : x ≢ a.used + i = omega arith in get_or-set_other s.cells.now (a.used + i) x c.link.result blank ne ∙ w.old x l;
+      old = λ x l. let ne : x ≢ a.used + i = omega arith in get_or-set_other s.cells.now (a.used + i) x c.cell.result blank ne ∙ w.old x l;
       new = below_more _ _
-          (λ j l. let ne : a.used + j ≢ a.used + i = omega arith in get_or-set_other s.cells.now (a.used + i) (a.used + j) c.link.result blank ne ∙ w.new j l)
-          (get_or-set_same s.cells.now (a.used + i) c.link.result blank h ∙ c.link.ensures);
+          (λ j l. let ne : a.used + j ≢ a.used + i = omega arith in get_or-set_other s.cells.now (a.used + i) (a.used + j) c.cell.result blank ne ∙ w.new j l)
+          (get_or-set_same s.cells.now (a.used + i) c.cell.result blank h ∙ c.cell.ensures ∙ b);
     }
 
 pub overflow_cast-self : goal.overflow_cast-self
 overflow_cast-self c =
-    let a = c.args.self.now in
-    let i : a.used + 0 ≤ 4194241 = short a 0 c.requires.spare (omega arith) in
+    let i = short c.args.self.now 0 c.requires.spare (omega arith) in
     search rules
 
 pub offset_bounds-self-c-2 : goal.offset_bounds-self-c-2
 offset_bounds-self-c-2 c =
-    let a = c.args.self.now in
-    let i : c.args.c ≤ 4194241 = omega (arith, short a 0 c.requires.spare (omega arith), c.requires.way.within) in
+    let i : c.args.c ≤ 4194241 = omega (arith, short c.args.self.now 0 c.requires.spare (omega arith), c.requires.way.within) in
     search rules
 
 pub bounds-self-c-2 : goal.bounds-self-c-2
@@ -100,7 +95,7 @@ pub overflow_add-self : goal.overflow_add-self
 overflow_add-self c =
     let a = c.args.self.now in
     let e = both_length fits_at a.values.now c.args.row.now c.requires.fit in
-    let i : a.used + (length c.args.row.now - c.args.level) ≤ 4194241 = short a (length c.args.row.now - c.args.level) c.requires.spare (omega arith) in
+    let i = short a (length c.args.row.now - c.args.level) c.requires.spare (omega arith) in
     search rules
 
 pub invariant_of-self-2 : goal.invariant_of-self-2
@@ -111,11 +106,10 @@ invariant_of-self-2 c =
     c.loop-i.invariant (omega (arith, c.loop-i-test.false)) c.requires.spare c.requires.way (omega (arith, c.requires.fresh)) (omega (arith, c.requires.fresh)) c.requires.fit in
     record { measured = h.0.measured; inside = h.0.inside; sound = h.0.sound }
 
-pub returns : goal.returns
-returns c =
+pub returns-clause-added : goal.returns-clause-added
+returns-clause-added c =
     let a = c.args.self.now in
-    let w = c.loop-i.invariant in
     let e = both_length fits_at a.values.now c.args.row.now c.requires.fit in
     let h = hung a c.loop-i.self c.args.row.now c.args.c c.args.level (length c.args.row.now - c.args.level) c.loop-i.i
-    w (omega (arith, c.loop-i-test.false)) c.requires.spare c.requires.way (omega (arith, c.requires.fresh)) (omega (arith, c.requires.fresh)) c.requires.fit in
-    record { added = h.1; table = ap (λ x. x.now) w.values; space = w.space; lender = w.lender }
+    c.loop-i.invariant (omega (arith, c.loop-i-test.false)) c.requires.spare c.requires.way (omega (arith, c.requires.fresh)) (omega (arith, c.requires.fresh)) c.requires.fit in
+    h.1

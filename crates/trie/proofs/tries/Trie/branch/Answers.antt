@@ -6,9 +6,6 @@ use Rattle.trie.specs.Wells.{head_within}
 use Rattle.trie.proofs.Descents.{of, reach, past_head, past_next}
 use Rattle.trie.proofs.tries.Trie.branch.Goals as goal
 
-pub bounds-self-c : goal.bounds-self-c
-bounds-self-c c = omega (arith, reach c.args.self.now c.requires.some, c.requires.within)
-
 pub loop-b-init : goal.loop-b-init
 loop-b-init c =
     let s = c.args.self.now in (
