@@ -7,8 +7,9 @@ use crate::limits::{accept_price, add_moves, limit};
 use rows::refusals::Refusal;
 use std::marker::PhantomData;
 
-// What sets one kind of cost apart: what an amount and a number of moves mean, and how two of them join and compare.
-pub trait Kind {
+// What sets one kind of cost apart: what an amount and a number of moves mean, and how two of them join and compare. The kinds are
+// those of this crate.
+pub(crate) trait Kind {
     ghost arithmetic: { Arithmetic };
 
     // the value of an amount and so many moves

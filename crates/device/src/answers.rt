@@ -18,7 +18,7 @@ use solver::solves::solve;
 use steps::tables::{Record, Tables};
 use store::stores::Store;
 use task::accepted::Accepted;
-use task::read;
+use task::{LONGEST_FILE, read};
 use trie::cells::Cell;
 use trie::tries::Trie;
 
@@ -32,7 +32,7 @@ const CELLS: usize = 4097;
 
 // An input that was read as a task.
 #[derive(Clone, Copy)]
-pub struct Input<'a> {
+struct Input<'a> {
     bytes: &'a [u8],
     accepted: Accepted<'a>,
     ghost reads: { reading bytes.now ≡ Ok (held accepted.task) },
@@ -79,7 +79,7 @@ fn search(input: &Input<'_>, moves: &mut [u16; NODES]) -> Result<Solved<Spend>, 
 }
 
 // The bytes of the longest input that is read.
-pub const LONGEST: usize = 32_768;
+pub const LONGEST: usize = LONGEST_FILE;
 
 // The bytes that suffice for every answer.
 const ANSWER: usize = 41_962;

@@ -24,11 +24,7 @@ pub fn tells<K: Cost, S: Store, Q: Queue<K>>(ending: Ending) -> Option<bool>
     ensures uses { OthersUse K.Cost S.Store Q.Queue }
 {
     jobs_tell::<K, S, Q>();
-    match ending {
-        Ending::Found => Some(true),
-        Ending::NoPlan => Some(false),
-        Ending::OutOfSpace => None,
-    }
+    ending.has_plan()
 }
 
 // Holds the proof that the space suffices.

@@ -59,10 +59,7 @@ impl<'a, K: Cost> Queue<K> for Heap<'a, K> {
     }
 
     fn take(&mut self) -> Option<Entry<K>> {
-        if self.waiting.len() == 0 {
-            return None;
-        }
-        let root = self.waiting.swap_remove(0);
+        let root = self.waiting.swap_remove(0)?;
         sift_down(&mut self.waiting);
         Some(root)
     }

@@ -3,7 +3,7 @@ use arrayvec::ArrayVec;
 use cost::costs::Cost;
 use queue::queues::Queue;
 use rows::refusals::Refusal;
-use search::jobs::{Found, Searching, Work, Worked};
+use search::jobs::{Found, Searching, Worked};
 use search::opens::open;
 use std::fmt;
 use steps::tables::Tables;
@@ -34,6 +34,17 @@ pub struct Answer {
     pub ending: Ending,
     pub steps: u32,
     pub stored: u16,
+}
+
+impl Answer {
+    // A call was refused, after so many steps.
+    fn refused(steps: u32) -> Answer {
+        Answer {
+            ending: Ending::Refused,
+            steps,
+            stored: 0,
+        }
+    }
 }
 
 impl fmt::Display for Ending {
@@ -74,33 +85,26 @@ fn finish<K: Cost, S: Store, Q: Queue<K>>(
     let mut job = from;
     let mut steps = 0u32;
     for _ in 0..TURNS {
-        match job.work(file, t, 1) {
-            Work::Idle(_) | Work::Torn(_, _) => {
-                return Answer {
-                    ending: Ending::Refused,
-                    steps,
-                    stored: 0,
-                };
+        let Ok(went) = job.work(file, t, 1) else {
+            return Answer::refused(steps);
+        };
+        let (worked, done) = went;
+        steps = steps.saturating_add(done);
+        let stored = worked.stored();
+        let ending = match worked {
+            Worked::Searching(j) => {
+                job = j;
+                continue;
             }
-            Work::Went(worked, done) => {
-                steps = steps.saturating_add(done);
-                let stored = worked.stored();
-                let ending = match worked {
-                    Worked::Searching(j) => {
-                        job = j;
-                        continue;
-                    }
-                    Worked::Found(j) => found(&j, file, t).unwrap_or(Ending::Refused),
-                    Worked::NoPlan(_) => Ending::NoPlan,
-                    Worked::OutOfSpace(_) => Ending::OutOfSpace,
-                };
-                return Answer {
-                    ending,
-                    steps,
-                    stored,
-                };
-            }
-        }
+            Worked::Found(j) => found(&j, file, t).unwrap_or(Ending::Refused),
+            Worked::NoPlan(_) => Ending::NoPlan,
+            Worked::OutOfSpace(_) => Ending::OutOfSpace,
+        };
+        return Answer {
+            ending,
+            steps,
+            stored,
+        };
     }
     Answer {
         ending: Ending::Endless,
@@ -116,10 +120,6 @@ pub fn work_out<K: Cost, S: Store, Q: Queue<K>>(
 ) -> Answer {
     match open(file, t) {
         Ok(job) => finish(job, file, t),
-        Err(_) => Answer {
-            ending: Ending::Refused,
-            steps: 0,
-            stored: 0,
-        },
+        Err(_) => Answer::refused(0),
     }
 }

@@ -16,6 +16,12 @@ some_of (x ∷ xs) i h = x
 pub front_is : {X : Type 0} (count : ℕ) (xs : List X) → count ≤ length xs → count ≤ 65535 → front count xs ≡ take count xs
 front_is count xs h few = let e : used count (length xs) ≡ count = omega arith in ap (λ n. take n xs) e
 
+-- what stands at a place in use
+pub front_read : {X : Type 0} (count : ℕ) (xs : List X) (at : ℕ) (r : X) → count ≤ length xs → count ≤ 65535 → at < count → get_or xs at r ≡ get_or (front count xs) at (get_or xs at r)
+front_read count xs at r h few lt =
+    let d = get_or xs at r in
+    sym (ap (λ l. get_or l at d) (front_is count xs h few) ∙ get_or-take count xs at d lt ∙ get_or_default xs at d r (omega arith))
+
 take_swap : {X : Type 0} (xs : List X) (n a b : ℕ) → n ≤ length xs → a < n → b < n → take n (swap xs a b) ≡ swap (take n xs) a b
 take_swap xs n a b h ha hb =
     let d = some_of xs a (omega arith) in

@@ -1,9 +1,11 @@
 -- The entry that comes first, as a row is gone through.
-use Rattle.std.proofs.Common.{◌≡◌, ℕ, ◌+◌, ◌<◌, true, false, List, length, get_or, sym, subst, below_more}
+use Rattle.std.proofs.Common.{◌≡◌, ℕ, ◌+◌, ◌<◌, true, false, List, length, get_or, Some, None, Option, IfSome, MatchOption, sym, subst, below_more}
 use Rattle.std.proofs.lemmas.List.{get_or_read}
 use Rattle.cost.specs.declared.costs.Cost as cost
 use Rattle.queue.specs.declared.entries.Entry.{Entry}
-use Rattle.queue.specs.Orders.{goes, Leads, Least}
+use Rattle.queue.specs.Orders.{goes, Leads, Least, Added}
+use Rattle.std.specs.List.{swap_remove}
+use Rattle.queue.proofs.Fronts.{taken_out}
 use Rattle.queue.proofs.Order.{goes_refl, goes_asym, goes_trans}
 
 module _ {K : Type 0} (C : cost.Ghosts K) (xs : List (Entry K)) where
@@ -28,3 +30,9 @@ module _ {K : Type 0} (C : cost.Ghosts K) (xs : List (Entry K)) where
     there = (b, l.below, λ e. sym (get_or_read xs b x l.below r e));
     least = λ e has. rw (get_or_read xs b x l.below r e) (subst (λ (f : Entry K). goes C f (get_or xs b e) ≡ false) (has.2 e) (l.least has.0 e has.1));
   }
+
+  -- the place of such an entry is emptied
+  pub least_taken : (ys : List (Entry K)) (b : ℕ) (o : Option (Entry K)) (A : Type 0) → Leads C xs (length xs) b
+      → MatchOption o A (λ x. (b < length xs) × (x ≡ get_or xs b x) × (ys ≡ swap_remove xs b x)) → IfSome o (λ e. Least C xs e × Added ys e xs)
+  least_taken ys b None A l h = tt
+  least_taken ys b (Some x) A l h = (leads_least b x l h.1, taken_out xs ys b x l.below h.1 h.2)

@@ -56,7 +56,7 @@ impl<'a, K: Cost> Queue<K> for ScannedRow<'a, K> {
 
     fn take(&mut self) -> Option<Entry<K>> {
         let at = first_of(self.waiting.as_slice())?;
-        Some(self.waiting.swap_remove(at))
+        self.waiting.swap_remove(at)
     }
 
     fn count(&self) -> usize {

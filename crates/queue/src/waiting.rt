@@ -1,4 +1,4 @@
-ghost use Rattle.std.specs.Prelude.{◌≡◌, ◌+◌, ◌<◌, ◌≤◌, ◌∷◌, ◌++◌, [], min, length, slice_index_or, MatchResult};
+ghost use Rattle.std.specs.Prelude.{◌≡◌, ◌+◌, ◌<◌, ◌≤◌, ◌∷◌, ◌++◌, [], min, length, slice_index_or, MatchOption, MatchResult};
 ghost use Rattle.std.specs.List.{swap, swap_remove};
 ghost use Rattle.queue.specs.Places.{room};
 
@@ -34,7 +34,7 @@ impl<T> Waiting<'_, T> {
     pub fn len(&self) -> usize
         ensures { result ≡ length (held self.now) }
     {
-        self.count
+        self.as_slice().len()
     }
 
     // How many can be.
@@ -70,29 +70,31 @@ impl<T: Copy> Waiting<'_, T> {
         Ok(())
     }
 
-    // Exchanges what two places hold.
+    // Exchanges what two places hold; nothing changes unless both are in use.
     pub fn swap(&mut self, a: usize, b: usize)
-        requires a { a < length (held self.old) }
-        requires b { b < length (held self.old) }
         ensures lent { self.new.places.ghost_name ≡ self.old.places.ghost_name }
         ensures room { room self.new.places.now ≡ room self.old.places.now }
-        ensures held { held self.new ≡ swap (held self.old) a b }
+        ensures held { a < length (held self.old) → b < length (held self.old) → held self.new ≡ swap (held self.old) a b }
+        ensures still { (a < length (held self.old) → b < length (held self.old) → ⊥) → self.new ≡ self.old }
     {
-        self.places.swap(a, b);
+        if a < self.count && b < self.count {
+            self.places.swap(a, b);
+        }
     }
 
-    // Takes out what this place holds, and moves the last there.
-    pub fn swap_remove(&mut self, at: usize) -> T
-        requires { at < length (held self.old) }
+    // Takes out what this place holds, and moves the last there; nothing unless the place is in use.
+    pub fn swap_remove(&mut self, at: usize) -> Option<T>
         ensures lent { self.new.places.ghost_name ≡ self.old.places.ghost_name }
         ensures room { room self.new.places.now ≡ room self.old.places.now }
-        ensures taken { result ≡ slice_index_or (held self.old) at result }
-        ensures left { held self.new ≡ swap_remove (held self.old) at result }
+        ensures taken { MatchOption result ((length (held self.old) ≤ at) × (self.new ≡ self.old)) (λ x. (at < length (held self.old)) × (x ≡ slice_index_or (held self.old) at x) × (held self.new ≡ swap_remove (held self.old) at x)) }
     {
+        if at >= self.count {
+            return None;
+        }
         let taken = self.places[at];
         let last = self.count - 1;
         self.places[at] = self.places[last];
         self.count = last;
-        taken
+        Some(taken)
     }
 }

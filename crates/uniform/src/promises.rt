@@ -15,6 +15,19 @@ pub enum Ending {
     OutOfSpace,
 }
 
+impl Ending {
+    // Whether there is a plan, as far as the ending tells.
+    pub fn has_plan(self) -> Option<bool>
+        ensures { result ≡ tells self }
+    {
+        match self {
+            Ending::Found => Some(true),
+            Ending::NoPlan => Some(false),
+            Ending::OutOfSpace => None,
+        }
+    }
+}
+
 // Holds the proof of what is found.
 fn found_is_cheapest<S: Setting>()
     ensures { FoundIsCheapest S.Setting.arithmetic S.Setting.space }
@@ -33,11 +46,7 @@ pub fn tells<S: Setting>(ending: Ending) -> Option<bool>
 {
     found_is_cheapest::<S>();
     no_plan_is_none::<S>();
-    match ending {
-        Ending::Found => Some(true),
-        Ending::NoPlan => Some(false),
-        Ending::OutOfSpace => None,
-    }
+    ending.has_plan()
 }
 
 // Holds the proof of how many nodes there can be, and of what a run holds.

@@ -23,9 +23,9 @@ loop-at-preserved g c =
     let at = c.loop-at.at in
     let child = c.lower-child.result in
     let inv = c.loop-at.invariant in
-    let is = c.swap.ensures.held in
     let low = subst (λ row. Lower C row (length row) at child) c.as_slice.ensures c.lower-child.ensures in
-    let here : at < length xs = omega arith in (
+    let here : at < length xs = omega arith in
+    let is = c.swap.ensures.held here low.below in (
       c.swap.ensures.lent ∙ inv.0,
       c.swap.ensures.room ∙ inv.1,
       shuffled_more _ xs ys at child here low.below is inv.2,

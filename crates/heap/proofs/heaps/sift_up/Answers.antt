@@ -18,7 +18,7 @@ loop-at-preserved g c =
     let ys = held c.swap.new.self in
     let at = c.loop-at.at in
     let inv = c.loop-at.invariant in
-    let is = c.swap.ensures.held in
+    let is = c.swap.ensures.held inv.3 (omega (arith, inv.3)) in
     let long : length ys ≡ length xs = length_exchanged xs ys at ((at - 1) / 2) is in (
       c.swap.ensures.lent ∙ inv.0,
       c.swap.ensures.room ∙ inv.1,

@@ -3,7 +3,7 @@ use Rattle.queue.specs.Places.{front}
 use Rattle.queue.proofs.Fronts.{front_swap}
 use Rattle.queue.proofs.waiting.Waiting.swap.Goals as goal
 
-pub returns-clause-held : goal.returns-clause-held
-returns-clause-held g c =
+pub returns-then-b-self-clause-held : goal.returns-then-b-self-clause-held
+returns-then-b-self-clause-held g c = λ ha hb.
     let w = c.args.self.now in
-    ap (front w.count) c.swap.ensures.after ∙ front_swap w.count w.places.now c.args.a c.args.b c.requires.a c.requires.b
+    ap (front w.count) c.swap.ensures.after ∙ front_swap w.count w.places.now c.args.a c.args.b ha hb
