@@ -10,7 +10,8 @@ pub use answers::{LONGEST, answer, longest_answer};
 use rows::refusals::Refusal;
 use task::accepted::Accepted;
 
-// Writes a piece into a buffer at a place, and answers where it ends.
+// Writes a piece into a buffer at a place, and answers where it ends. The writer of task files has the same function for itself:
+// shared it would be public, and no public function requires anything.
 fn put(out: &mut [u8], at: usize, piece: &[u8]) -> usize
     requires { at + length piece.now ≤ length out.old }
     ensures { Placed at piece.now out.old result out.new }

@@ -90,6 +90,7 @@ fn sift_up<K: Cost>(heap: &mut Waiting<Entry<K>>)
     ensures same { IsPermutation (held heap.old) (held heap.new) }
     ensures heaped { Heaped K.Cost (held heap.old) (length (held heap.old) - 1) → Heaped K.Cost (held heap.new) (length (held heap.new)) }
 {
+    // A while: the places on the way up a tree stand in no slice or range.
     let mut at = heap.len() - 1;
     while at > 0 {
         let up = (at - 1) / 2;
@@ -121,6 +122,7 @@ fn sift_down<K: Cost>(heap: &mut Waiting<Entry<K>>)
     ensures same { IsPermutation (held heap.old) (held heap.new) }
     ensures heaped { Rooted K.Cost (held heap.old) (length (held heap.old)) → Heaped K.Cost (held heap.new) (length (held heap.new)) }
 {
+    // A while: the places on the way down a tree stand in no slice or range.
     let mut at = 0;
     while at < heap.len() / 2 {
         let child = lower(heap.as_slice(), at);

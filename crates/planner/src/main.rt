@@ -8,6 +8,7 @@ use std::io::{Read, Write};
 fn main(rt: HostRuntime) -> io::Result<()> {
     let heap = rt.alloc();
     let mut input = Vec::new(heap);
+    // as: Rust has no From of usize for u64
     rt.stdin().take(LONGEST as u64 + 1).read_to_end(&mut input)?;
     let mut text = vec![in heap; 0; longest_answer()]?;
     match answer(input.as_slice(), text.as_mut_slice()) {

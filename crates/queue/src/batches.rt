@@ -16,6 +16,7 @@ pub fn put_all<K: Cost, Q: Queue<K>>(q: &mut Q, costs: &[K]) -> usize
     let free = q.capacity() - q.count();
     let n = costs.len().min(free);
     for (i, cost) in costs[..n].iter().enumerate() {
+        // as: i is below a capacity of at most 65,535, and u16::try_from would bring an error that cannot be
         let _ = q.put(*cost, i as u16);
     }
     n

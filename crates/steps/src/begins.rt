@@ -24,6 +24,7 @@ fn capacity<K: Cost, S: Store, Q: Queue<K>>(t: &Tables<'_, K, S, Q>, width: usiz
     let nodes = rows.min(t.records.len());
     let kept = nodes.min(t.store.capacity());
     let waiting = kept.min(t.queue.capacity());
+    // as: it fits by min, and u16::try_from would bring an error that cannot be
     waiting.min(MOST) as u16
 }
 

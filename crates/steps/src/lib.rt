@@ -71,7 +71,7 @@ fn move_cost<K: Cost>(price: u32, rest: K) -> Result<K, Refusal>
     K::price(price)?.join(rest)
 }
 
-// The number of moves, which is at most 4,096.
+// The number of moves, which is at most 4,096: so it is converted by as, since u16::try_from would bring an error that cannot be.
 fn move_count(accepted: &Accepted<'_>) -> u16
     ensures { result ≡ length (task_of (held accepted.now.task)).moves }
 {

@@ -76,6 +76,7 @@ impl<'t, 'm> Store for RowStore<'t, 'm> {
         if !fits(self.values, row) {
             return Err(Refusal::Misfit);
         }
+        // as: a rank is below the capacity, which is at most 65,535, and u16::try_from would bring an error that cannot be
         Ok(
             (0..self.count)
                 .find(|r| row_covers(self.row_at(*r), row))

@@ -4,6 +4,7 @@ ghost use Rattle.std.specs.Prelude.{◌≡◌, ◌+◌, ◌≤◌, length};
 ghost use Rattle.task.specs.Files.{word};
 
 pub mod accepted;
+mod addressable;
 mod checks;
 mod contents;
 mod counted;

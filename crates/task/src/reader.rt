@@ -21,6 +21,7 @@ impl<'a> Contents<'a> {
         ensures start { result.start ≡ place self.now.file.now i }
         ensures end { result.end ≡ place self.now.file.now i + size self.now.file.now i }
     {
+        // as: Rust has no From of u32 for usize
         let start = word(self.file, 8 * i) as usize;
         start..start + word(self.file, 8 * i + 4) as usize
     }

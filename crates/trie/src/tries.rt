@@ -114,6 +114,7 @@ impl Trie<'_, '_> {
         ensures space { self.new.space ≡ self.old.space }
         ensures lender { self.new.cells.ghost_name ≡ self.old.cells.ghost_name }
     {
+        // as: ranks and places fit by the type's invariant, and try_from would bring errors that cannot be
         let from = self.used;
         let rank = self.count;
         let k = row.len() - level;

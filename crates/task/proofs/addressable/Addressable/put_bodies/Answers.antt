@@ -1,12 +1,12 @@
 use Rattle.std.proofs.Common.{◌≡◌, ◌++◌, take, ap, ◌∙◌, append_assoc, arith}
 use Rattle.rows.specs.Calls.{over}
 use Rattle.task.proofs.Pieces.{next, from}
-use Rattle.task.proofs.writer.put_bodies.Goals as goal
+use Rattle.task.proofs.addressable.Addressable.put_bodies.Goals as goal
 
 pub returns : goal.returns
 returns c =
     let old = c.args.out.now in
-    let t = c.args.task.now in
+    let t = c.args.self.now.task in
     let values = t.values.now in
     let start = t.start.now in
     let goal = t.goal.now in

@@ -2,12 +2,12 @@ use Rattle.std.proofs.Common.{[], length, refl, ap, ◌∙◌}
 use Rattle.rows.specs.Calls.{over}
 use Rattle.task.specs.Layouts.{entry}
 use Rattle.task.proofs.Pieces.{Done, next, five_entries}
-use Rattle.task.proofs.writer.put_contents.Goals as goal
+use Rattle.task.proofs.addressable.Addressable.put_contents.Goals as goal
 
 pub returns : goal.returns
 returns c =
     let old = c.args.out.now in
-    let t = c.args.task.now in
+    let t = c.args.self.now.task in
     let none : Done 0 [] old old = record { long = refl; is = refl } in
     let one = next {to = 8} (entry 40 (length t.values.now)) none refl c.put_entry-start.ensures.after in
     let two = next {to = 16} (entry c.put_entry-start.result (length t.start.now)) one refl c.put_entry-goal.ensures.after in
