@@ -10,11 +10,11 @@ ghost use Rattle.steps.specs.Turns.{Turns, Counts, Unmoved};
 use crate::numbers::{Numbers, Turned};
 use crate::outcomes::{Stop, Visited};
 use crate::tables::Tables;
-use crate::workspaces::{LONGEST, Workspace};
+use crate::workspaces::Workspace;
 use crate::{cost_at, row_at, same};
 use cost::costs::Cost;
 use queue::queues::Queue;
-use rows::checks::fits;
+use rows::checks::{MOST_VARIABLES, fits};
 use rows::refusals::Refusal;
 use store::stores::Store;
 use task::accepted::Accepted;
@@ -97,7 +97,7 @@ fn take<K: Cost, S: Store, Q: Queue<K>>(
     ensures unmoved { Unmoved t.old t.new result }
     ensures turns { Q.Queue.ordered t.old.queue → Whole K.Cost (task_of (held accepted.now.task)) job.progress.capacity job.kept job.waiting (memory S.Store Q.Queue t.old job.progress.stored job.progress.cover) → Names K.Cost (Q.Queue.entries t.old.queue) n → Turns K.Cost S.Store Q.Queue (task_of (held accepted.now.task)) job t.old t.new result }
 {
-    let mut scratch = [0; LONGEST];
+    let mut scratch = [0; MOST_VARIABLES];
     let Numbers {
         progress,
         kept,

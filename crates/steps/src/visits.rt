@@ -11,7 +11,7 @@ ghost use Rattle.steps.specs.Results.{Adds};
 use crate::numbers::Progress;
 use crate::outcomes::{Stop, Visited};
 use crate::tables::Record;
-use crate::workspaces::{LONGEST, Workspace};
+use crate::workspaces::{Scratch, Workspace};
 use crate::{cost_at, move_cost, move_count, note, regress, row_at, write_row};
 use cost::costs::Cost;
 use queue::queues::Queue;
@@ -28,7 +28,7 @@ impl<K: Cost, S: Store, Q: Queue<K>> Workspace<'_, '_, '_, '_, '_, K, S, Q> {
     }
 
     // The node's row, into the row to work in.
-    fn fetch(&self, scratch: &mut [u8; LONGEST])
+    fn fetch(&self, scratch: &mut Scratch)
         ensures { take (width (task_in self.now)) scratch.new ≡ row_at (width (task_in self.now)) self.now.rows.now self.now.node }
     {
         let v = self.variables();
@@ -36,21 +36,21 @@ impl<K: Cost, S: Store, Q: Queue<K>> Workspace<'_, '_, '_, '_, '_, K, S, Q> {
     }
 
     // The rank of a kept row that covers the row at work, or nothing if none does.
-    fn cover(&self, scratch: &[u8; LONGEST]) -> Result<Option<u16>, Refusal>
+    fn cover(&self, scratch: &Scratch) -> Result<Option<u16>, Refusal>
         ensures { CoverAnswer (S.Store.table self.now.store.now) (S.Store.kept self.now.store.now) (take (width (task_in self.now)) scratch.now) result }
     {
         self.store.cover(&scratch[..self.variables()])
     }
 
     // Whether the row at work agrees with the start.
-    fn agrees(&self, scratch: &[u8; LONGEST]) -> bool
+    fn agrees(&self, scratch: &Scratch) -> bool
         ensures { result ≡ covers (take (width (task_in self.now)) scratch.now) (task_in self.now).start }
     {
         row_covers(&scratch[..self.variables()], self.accepted.task.start)
     }
 
     // The price of move m if the node's row is regressed over it; the result is then the row at work.
-    fn regress(&self, m: u16, scratch: &mut [u8; LONGEST]) -> Option<u32>
+    fn regress(&self, m: u16, scratch: &mut Scratch) -> Option<u32>
         ensures { MatchOption result (back (task_in self.now) m (row_at (width (task_in self.now)) self.now.rows.now self.now.node) ≡ None) (λ p. (back (task_in self.now) m (row_at (width (task_in self.now)) self.now.rows.now self.now.node) ≡ Some (take (width (task_in self.now)) scratch.new)) × (p ≡ price (task_in self.now) m)) }
     {
         let v = self.variables();
@@ -71,7 +71,7 @@ impl<K: Cost, S: Store, Q: Queue<K>> Workspace<'_, '_, '_, '_, '_, K, S, Q> {
     }
 
     // The row at work, met by move m at this price, which no kept row covers, as the next node.
-    fn add(&mut self, scratch: &[u8; LONGEST], m: u16, price: u32) -> Result<(), Stop>
+    fn add(&mut self, scratch: &Scratch, m: u16, price: u32) -> Result<(), Stop>
         ensures { Adds K.Cost S.Store Q.Queue m price (take (width (task_in self.old)) scratch.now) self.old self.new result }
     {
         let Progress {
@@ -123,7 +123,7 @@ impl<K: Cost, S: Store, Q: Queue<K>> Workspace<'_, '_, '_, '_, '_, K, S, Q> {
     }
 
     // Tries move m at the node. For a result that a kept row covers nothing is written.
-    fn try_move(&mut self, m: u16, scratch: &mut [u8; LONGEST]) -> Result<(), Stop>
+    fn try_move(&mut self, m: u16, scratch: &mut Scratch) -> Result<(), Stop>
         ensures lent { Lent self.old self.new }
         ensures counts { MoveCounts S.Store Q.Queue self.old self.new result }
         ensures granted { ReadyAt K.Cost S.Store Q.Queue self.old self.old → MoveGranted K.Cost S.Store Q.Queue self.old self.new result }
@@ -142,7 +142,7 @@ impl<K: Cost, S: Store, Q: Queue<K>> Workspace<'_, '_, '_, '_, '_, K, S, Q> {
     }
 
     // Tries each move in order.
-    fn expand(&mut self, scratch: &mut [u8; LONGEST]) -> Result<(), Stop>
+    fn expand(&mut self, scratch: &mut Scratch) -> Result<(), Stop>
         ensures lent { Lent self.old self.new }
         ensures counts { ExpandCounts S.Store Q.Queue self.old self.new result }
         ensures granted { ReadyAt K.Cost S.Store Q.Queue self.old self.old → Granted result }
@@ -156,7 +156,7 @@ impl<K: Cost, S: Store, Q: Queue<K>> Workspace<'_, '_, '_, '_, '_, K, S, Q> {
     }
 
     // What is done with the node once it is taken.
-    fn visit(&mut self, scratch: &mut [u8; LONGEST]) -> Result<Visited, Stop>
+    fn visit(&mut self, scratch: &mut Scratch) -> Result<Visited, Stop>
         ensures lent { Lent self.old self.new }
         ensures counts { VisitCounts S.Store Q.Queue self.old self.new result }
         ensures granted { SteadyAt K.Cost S.Store Q.Queue self.old self.old → Granted result }
@@ -177,7 +177,7 @@ impl<K: Cost, S: Store, Q: Queue<K>> Workspace<'_, '_, '_, '_, '_, K, S, Q> {
     }
 
     // One step, which takes the node.
-    pub(crate) fn step(&mut self, scratch: &mut [u8; LONGEST]) -> Result<Visited, Stop>
+    pub(crate) fn step(&mut self, scratch: &mut Scratch) -> Result<Visited, Stop>
         ensures lent { Lent self.old self.new }
         ensures counts { TakeCounts S.Store Q.Queue self.old self.new result }
         ensures granted { 0 < length (Q.Queue.entries self.old.queue.now) → EagerAt K.Cost S.Store Q.Queue self.old self.old → Granted result }

@@ -5,10 +5,11 @@ ghost use Rattle.steps.specs.Memories.{width};
 
 use crate::numbers::Progress;
 use crate::tables::Record;
+use rows::checks::MOST_VARIABLES;
 use task::accepted::Accepted;
 
-// The most bytes of a row.
-pub(crate) const LONGEST: usize = 64;
+// A row to work in: as many of its first bytes as the task has variables.
+pub(crate) type Scratch = [u8; MOST_VARIABLES];
 
 // What a step works with: the task, the parts of the tables, which have space for as many nodes as the capacity says, the node
 // that is taken, and how far the job has come. Each reference has a lifetime of its own, since the check follows only such ones.

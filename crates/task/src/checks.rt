@@ -5,7 +5,7 @@ ghost use Rattle.task.specs.Answers.{held, Checks, move_of};
 
 use crate::counted::Counted;
 use crate::faults::Fault;
-use crate::names::first_name;
+use crate::first_name;
 use crate::tables::{Step, Task};
 use rows::checks::{MOST_VARIABLES, fits, has_values, is_complete};
 

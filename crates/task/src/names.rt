@@ -1,22 +1,11 @@
 ghost use Rattle.std.specs.Prelude.{◌≡◌, ℕ, ◌+◌, ◌^◌, ◌<◌, true, length};
 ghost use Rattle.task.specs.Files.{named};
-ghost use Rattle.task.specs.Answers.{FirstName, LooksUp, NamesMove, LiesInFile};
+ghost use Rattle.task.specs.Answers.{LooksUp, NamesMove, LiesInFile};
 
 use crate::accepted::Accepted;
 use crate::faults::Fault;
+use crate::first_name;
 use crate::reader::read;
-
-// The first of some names, and what follows it; nothing where no whole name begins.
-pub(crate) fn first_name(names: &[u8]) -> Option<(&[u8], &[u8])>
-    ensures { FirstName names.now result }
-{
-    let (length, rest) = names.split_first()?;
-    let length = usize::from(*length);
-    if length > rest.len() {
-        return None;
-    }
-    Some(rest.split_at(length))
-}
 
 // Name k of lawful names that begin at a place, with the place of its first byte.
 fn look_up(names: &[u8], base: usize, k: usize) -> Option<(&[u8], usize)>
