@@ -1,6 +1,6 @@
 #![tactic(auto)]
 
-ghost use Rattle.std.specs.Prelude.{◌≡◌, ℕ, ◌<◌, ◌≤◌, ◌&&◌, List, ◌++◌, length, drop, MatchBool, MatchOption, nat_lt, slice_index_or, slice_set};
+ghost use Rattle.std.specs.Prelude.{◌≡◌, ℕ, ◌<◌, ◌≤◌, ◌&&◌, List, ◌++◌, length, drop, MatchBool, MatchOption, nat_lt, slice_index_or};
 ghost use Rattle.steps.specs.declared.tables.Record.{Record};
 ghost use Rattle.chains.specs.Chains.{Link, Chain, Broken, Reading, NeverBoth, OneChain, FewMoves, OneReading};
 
@@ -89,8 +89,8 @@ fn write_chain<K>(records: &[Record<K>], node: u16, out: &mut [u16])
     }
 }
 
-// Holds the proofs of what is so of all chains.
-fn chains_are<K>(records: &[Record<K>], moves: usize)
+// Holds the proofs of what holds of all chains.
+fn chains_hold<K>(records: &[Record<K>], moves: usize)
     ensures apart { NeverBoth records.now moves }
     ensures one { OneChain records.now moves }
     ensures few { FewMoves records.now moves }
@@ -112,7 +112,7 @@ pub fn read_chain<K>(
     ensures few { FewMoves records.now moves }
     ensures same { OneReading records.now moves }
 {
-    chains_are(records, moves);
+    chains_hold(records, moves);
     let Some(count) = chain_length(records, node, moves) else {
         return Err(Refusal::Torn);
     };

@@ -1,10 +1,8 @@
 ghost use Rattle.std.specs.Prelude.{◌≡◌, ◌+◌, ◌<◌, ◌≤◌, MatchResult};
 ghost use Rattle.cost.specs.Limits.{limited};
 
+use rows::operators::HIGHEST_PRICE;
 use rows::refusals::Refusal;
-
-// The highest price of a move.
-const HIGHEST_PRICE: u32 = 1_000_000_000;
 
 // What an amount counts as: at most what so many moves can cost.
 pub fn limit(amount: u64, moves: u16) -> u64

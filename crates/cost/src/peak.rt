@@ -16,7 +16,7 @@ impl Kind for Highest {
 
     ghost size = { λ v. v };
 
-    ghost both = { max };
+    ghost joined = { max };
 
     fn join_amounts(first: u64, rest: u64) -> u64 {
         first.max(rest)
@@ -32,7 +32,7 @@ impl Kind for Highest {
 
     ghost means_join = { λ a m b n. refl };
 
-    ghost grows = { λ a b. Prim.omega arith };
+    ghost bounded = { λ a b. Prim.omega arith };
 
     ghost sized = { λ a m. refl };
 }

@@ -19,12 +19,12 @@ pub(crate) trait Kind {
     ghost size: { arithmetic.Value → ℕ };
 
     // the amount of a join
-    ghost both: { ℕ → ℕ → ℕ };
+    ghost joined: { ℕ → ℕ → ℕ };
 
     // The amount of a join.
     fn join_amounts(first: u64, rest: u64) -> u64
         requires { first + rest < 2 ^ 64 }
-        ensures { result ≡ both first rest };
+        ensures { result ≡ joined first rest };
 
     // Whether the first of two, each an amount and its moves, comes before the other.
     fn comes_before(one: (u64, u16), other: (u64, u16)) -> bool
@@ -34,9 +34,9 @@ pub(crate) trait Kind {
 
     ghost means_price: { (p : ℕ) → meaning p 1 ≡ arithmetic.priced p };
 
-    ghost means_join: { (a m b n : ℕ) → meaning (both a b) (m + n) ≡ arithmetic.joined (meaning a m) (meaning b n) };
+    ghost means_join: { (a m b n : ℕ) → meaning (joined a b) (m + n) ≡ arithmetic.joined (meaning a m) (meaning b n) };
 
-    ghost grows: { (a b : ℕ) → both a b ≤ a + b };
+    ghost bounded: { (a b : ℕ) → joined a b ≤ a + b };
 
     ghost sized: { (a m : ℕ) → size (meaning a m) ≡ a };
 }

@@ -3,7 +3,7 @@ ghost use Rattle.std.specs.List.Sorted.{IsPermutation};
 ghost use Rattle.queue.specs.declared.entries.Entry.{Entry};
 ghost use Rattle.queue.specs.Orders.{goes};
 ghost use Rattle.queue.specs.Places.{room, front_fits};
-ghost use Rattle.queue.specs.Held.{held};
+ghost use Rattle.queue.specs.Items.{items};
 ghost use Rattle.heap.specs.Heaps.{Heaped, Rooted, Lower, empty_heaped};
 ghost use Rattle.heap.specs.Makes.{heap_entries, heap_room};
 
@@ -84,11 +84,11 @@ fn ahead<K: Cost>(row: &[Entry<K>], a: usize, b: usize) -> bool
 
 // Moves the last entry up to where it belongs.
 fn sift_up<K: Cost>(heap: &mut Waiting<Entry<K>>)
-    requires { 0 < length (held heap.old) }
+    requires { 0 < length (items heap.old) }
     ensures lent { heap.new.places.ghost_name ≡ heap.old.places.ghost_name }
     ensures room { room heap.new.places.now ≡ room heap.old.places.now }
-    ensures same { IsPermutation (held heap.old) (held heap.new) }
-    ensures heaped { Heaped K.Cost (held heap.old) (length (held heap.old) - 1) → Heaped K.Cost (held heap.new) (length (held heap.new)) }
+    ensures same { IsPermutation (items heap.old) (items heap.new) }
+    ensures heaped { Heaped K.Cost (items heap.old) (length (items heap.old) - 1) → Heaped K.Cost (items heap.new) (length (items heap.new)) }
 {
     // A while: the places on the way up a tree stand in no slice or range.
     let mut at = heap.len() - 1;
@@ -119,8 +119,8 @@ fn lower<K: Cost>(row: &[Entry<K>], at: usize) -> usize
 fn sift_down<K: Cost>(heap: &mut Waiting<Entry<K>>)
     ensures lent { heap.new.places.ghost_name ≡ heap.old.places.ghost_name }
     ensures room { room heap.new.places.now ≡ room heap.old.places.now }
-    ensures same { IsPermutation (held heap.old) (held heap.new) }
-    ensures heaped { Rooted K.Cost (held heap.old) (length (held heap.old)) → Heaped K.Cost (held heap.new) (length (held heap.new)) }
+    ensures same { IsPermutation (items heap.old) (items heap.new) }
+    ensures heaped { Rooted K.Cost (items heap.old) (length (items heap.old)) → Heaped K.Cost (items heap.new) (length (items heap.new)) }
 {
     // A while: the places on the way down a tree stand in no slice or range.
     let mut at = 0;

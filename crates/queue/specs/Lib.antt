@@ -1,5 +1,5 @@
 pub mod Orders
 pub mod Places
-pub mod Held
+pub mod Items
 pub mod Makes
 pub mod Batches

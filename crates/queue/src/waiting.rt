@@ -1,4 +1,4 @@
-ghost use Rattle.std.specs.Prelude.{◌≡◌, ◌+◌, ◌<◌, ◌≤◌, ◌∷◌, ◌++◌, [], min, length, slice_index_or, MatchOption, MatchResult};
+ghost use Rattle.std.specs.Prelude.{◌≡◌, ◌+◌, ◌<◌, ◌≤◌, ◌∷◌, ◌++◌, [], length, slice_index_or, slice_set, IfSome, MatchOption, MatchResult, OnOk, ◌-◌};
 ghost use Rattle.std.specs.List.{swap, swap_remove};
 ghost use Rattle.queue.specs.Places.{room};
 
@@ -15,11 +15,11 @@ pub struct Waiting<'a, T> {
 }
 
 impl<'a, T> Waiting<'a, T> {
-    ghost use Rattle.queue.specs.Held.{held};
+    ghost use Rattle.queue.specs.Items.{items};
 
     // None of the places in use, whatever they hold.
     pub fn new(places: &'a mut [T]) -> Waiting<'a, T>
-        ensures empty { held result ≡ [] }
+        ensures empty { items result ≡ [] }
         ensures same { result.places.now ≡ places.old }
         ensures lent { result.places.ghost_name ≡ places.entry.ghost_name }
     {
@@ -28,11 +28,11 @@ impl<'a, T> Waiting<'a, T> {
 }
 
 impl<T> Waiting<'_, T> {
-    ghost use Rattle.queue.specs.Held.{held};
+    ghost use Rattle.queue.specs.Items.{items};
 
     // How many places are in use.
     pub fn len(&self) -> usize
-        ensures { result ≡ length (held self.now) }
+        ensures { result ≡ length (items self.now) }
     {
         self.as_slice().len()
     }
@@ -46,20 +46,21 @@ impl<T> Waiting<'_, T> {
 
     // What they hold.
     pub fn as_slice(&self) -> &[T]
-        ensures { result.now ≡ held self.now }
+        ensures { result.now ≡ items self.now }
     {
         &self.places[..self.count]
     }
 }
 
 impl<T: Copy> Waiting<'_, T> {
-    ghost use Rattle.queue.specs.Held.{held};
+    ghost use Rattle.queue.specs.Items.{items};
 
     // Takes the next place into use; refused exactly when there is none.
     pub fn push(&mut self, x: T) -> Result<(), Refusal>
         ensures lent { self.new.places.ghost_name ≡ self.old.places.ghost_name }
         ensures room { room self.new.places.now ≡ room self.old.places.now }
-        ensures done { MatchResult result (λ _. (length (held self.old) < room self.old.places.now) × (held self.new ≡ held self.old ++ x ∷ [])) (λ e. (length (held self.old) ≡ room self.old.places.now) × (e ≡ Refusal.Full) × (self.new ≡ self.old)) }
+        ensures memory { OnOk result (self.new.places.now ≡ slice_set self.old.places.now (length (items self.old)) x) }
+        ensures done { MatchResult result (λ _. (length (items self.old) < room self.old.places.now) × (items self.new ≡ items self.old ++ x ∷ [])) (λ e. (length (items self.old) ≡ room self.old.places.now) × (e ≡ Refusal.Full) × (self.new ≡ self.old)) }
     {
         let at = self.count;
         if at == self.capacity() {
@@ -74,8 +75,9 @@ impl<T: Copy> Waiting<'_, T> {
     pub fn swap(&mut self, a: usize, b: usize)
         ensures lent { self.new.places.ghost_name ≡ self.old.places.ghost_name }
         ensures room { room self.new.places.now ≡ room self.old.places.now }
-        ensures held { a < length (held self.old) → b < length (held self.old) → held self.new ≡ swap (held self.old) a b }
-        ensures still { (a < length (held self.old) → b < length (held self.old) → ⊥) → self.new ≡ self.old }
+        ensures memory { a < length (items self.old) → b < length (items self.old) → self.new.places.now ≡ swap self.old.places.now a b }
+        ensures items { a < length (items self.old) → b < length (items self.old) → items self.new ≡ swap (items self.old) a b }
+        ensures still { (a < length (items self.old) → b < length (items self.old) → ⊥) → self.new ≡ self.old }
     {
         if a < self.count && b < self.count {
             self.places.swap(a, b);
@@ -86,7 +88,8 @@ impl<T: Copy> Waiting<'_, T> {
     pub fn swap_remove(&mut self, at: usize) -> Option<T>
         ensures lent { self.new.places.ghost_name ≡ self.old.places.ghost_name }
         ensures room { room self.new.places.now ≡ room self.old.places.now }
-        ensures taken { MatchOption result ((length (held self.old) ≤ at) × (self.new ≡ self.old)) (λ x. (at < length (held self.old)) × (x ≡ slice_index_or (held self.old) at x) × (held self.new ≡ swap_remove (held self.old) at x)) }
+        ensures memory { IfSome result (λ x. self.new.places.now ≡ slice_set self.old.places.now at (slice_index_or self.old.places.now (length (items self.old) - 1) x)) }
+        ensures taken { MatchOption result ((length (items self.old) ≤ at) × (self.new ≡ self.old)) (λ x. (at < length (items self.old)) × (x ≡ slice_index_or (items self.old) at x) × (items self.new ≡ swap_remove (items self.old) at x)) }
     {
         if at >= self.count {
             return None;

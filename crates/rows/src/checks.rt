@@ -1,4 +1,4 @@
-ghost use Rattle.std.specs.Prelude.{◌≡◌, not, length, ◌==◌};
+ghost use Rattle.std.specs.Prelude.{◌≡◌, not, ◌==◌};
 ghost use Rattle.rows.specs.Rows.{fits, fits_at, complete, complete_at, valued, usable};
 
 // The byte of a row that leaves its variable undefined.

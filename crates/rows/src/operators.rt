@@ -6,6 +6,9 @@ use crate::checks::{MARK, fits, is_complete};
 use crate::inner::row_covers;
 use crate::refusals::Refusal;
 
+// The highest price of a move.
+pub const HIGHEST_PRICE: u32 = 1_000_000_000;
+
 // What a move asks of a state and what it sets: its condition and its effect.
 #[derive(Clone, Copy)]
 pub struct Operator<'a> {

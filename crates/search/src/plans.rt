@@ -1,6 +1,5 @@
 ghost use Rattle.std.specs.Prelude.{◌≡◌, ℕ, ◌<◌, List, length, MatchBool, slice_index_or};
 ghost use Rattle.task.specs.Answers.{held};
-ghost use Rattle.task.specs.Files.{width};
 ghost use Rattle.steps.specs.declared.tables.Record.{Record};
 ghost use Rattle.chains.specs.Chains.{Chain, Broken, Reading};
 ghost use Rattle.search.specs.Plans.{Serves, PlansOn, CostsOn};

@@ -24,7 +24,7 @@ granted_err X Y Crowded r h g = subst Granted (sym (refused r h)) tt
 
 module _ {K S Q : Type 0} where
   pub lent_same : (w : Workspace K S Q) → Lent w w
-  lent_same w = record { accepted = refl; node = refl; capacity = refl; rows = refl; records = refl; store = refl; queue = refl }
+  lent_same w = record { accepted = refl; node = refl; capacity = refl; rows = refl; bytes = refl; noted = refl; records = refl; store = refl; queue = refl }
 
   pub lent_then : {u v w : Workspace K S Q} → Lent u v → Lent v w → Lent u w
   lent_then a b = record {
@@ -32,6 +32,8 @@ module _ {K S Q : Type 0} where
     node = b.node ∙ a.node;
     capacity = b.capacity ∙ a.capacity;
     rows = b.rows ∙ a.rows;
+    bytes = b.bytes ∙ a.bytes;
+    noted = b.noted ∙ a.noted;
     records = b.records ∙ a.records;
     store = b.store ∙ a.store;
     queue = b.queue ∙ a.queue;

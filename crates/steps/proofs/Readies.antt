@@ -13,7 +13,7 @@ use Rattle.steps.specs.declared.outcomes.Stop.TheVariants.{Torn, Crowded}
 use Rattle.steps.specs.declared.outcomes.Visited.{Visited}
 use Rattle.steps.specs.declared.workspaces.Workspace.{Workspace}
 use Rattle.steps.specs.Steps.{Kept, Upto, Crowded as Crowds, crowds}
-use Rattle.steps.specs.Answers.{Fit, Ready, Steady, mem, task_in, Lent, Expands, Visits}
+use Rattle.steps.specs.Answers.{Fit, Ready, Steady, memory_in, task_in, Lent, Expands, Visits}
 use Rattle.steps.proofs.Additions.{refused, lent_at}
 
 module _ {K : Type 0} (C : cost.Ghosts K) (task : Task) (cap : ℕ) where
@@ -43,8 +43,8 @@ module _ {K S Q : Type 0} (C : cost.Ghosts K) (st : store.Ghosts S) (qu : queue.
   -- a visit that breaks off, by how its expansion did
   pub visits_stop : (w mid v : Workspace K S Q) (s : Stop) (r : Result Visited Stop) → IsErrAnd r (λ e. e ≡ s) → Lent w mid
       → Uncovered (st.kept w.store.now) (row_at (width (task_in w)) w.rows.now w.node) → covers (row_at (width (task_in w)) w.rows.now w.node) (task_in w).start ≡ false
-      → Kept C (task_in w) (row_at (width (task_in w)) w.rows.now w.node) (mem st qu w) (mem st qu mid) → Expands C st qu mid v (Err s) → Visits C st qu w v r
+      → Kept C (task_in w) (row_at (width (task_in w)) w.rows.now w.node) (memory_in st qu w) (memory_in st qu mid) → Expands C st qu mid v (Err s) → Visits C st qu w v r
   visits_stop w mid v Torn r e l u f k h = absurd h
   visits_stop w mid v Crowded r e l u f k h =
-      let x = lent_at w mid (λ task cap n. (m : ℕ) × (m < length task.moves) × Upto C task cap n (mem st qu mid) m (mem st qu v) × Crowds C task cap n m (mem st qu v)) l h.1 in
+      let x = lent_at w mid (λ task cap n. (m : ℕ) × (m < length task.moves) × Upto C task cap n (memory_in st qu mid) m (memory_in st qu v) × Crowds C task cap n m (memory_in st qu v)) l h.1 in
       subst (Visits C st qu w v) (sym (refused r e)) (h.0, crowds u f k x.2 x.1 x.3)

@@ -14,7 +14,7 @@ use Rattle.steps.specs.declared.outcomes.Visited.{Visited}
 use Rattle.steps.specs.declared.workspaces.Workspace.{Workspace}
 use Rattle.steps.specs.Memories.{Memory, At, width, row_at}
 use Rattle.steps.specs.Steps.{Taken, Visit, takes, Sized, Sound}
-use Rattle.steps.specs.Answers.{Steady, Eager, mem, task_in, Lent, outcome, Visits, Takes}
+use Rattle.steps.specs.Answers.{Steady, Eager, memory_in, task_in, Lent, outcome, Visits, Takes}
 use Rattle.steps.proofs.Additions.{lent_at}
 
 module _ {K : Type 0} (C : cost.Ghosts K) (task : Task) (cap : ℕ) where
@@ -67,12 +67,12 @@ module _ {K : Type 0} (C : cost.Ghosts K) (task : Task) (cap : ℕ) where
 
 module _ {K S Q : Type 0} (C : cost.Ghosts K) (st : store.Ghosts S) (qu : queue.Ghosts Q K) where
   -- from a taking and a visit, a step
-  pub takes_visit : (w mid v : Workspace K S Q) (e : Entry K) (r : Result Visited Stop) → Lent w mid → w.node ≡ e.number → Taken C (task_in w) e (mem st qu w) (mem st qu mid)
+  pub takes_visit : (w mid v : Workspace K S Q) (e : Entry K) (r : Result Visited Stop) → Lent w mid → w.node ≡ e.number → Taken C (task_in w) e (memory_in st qu w) (memory_in st qu mid)
       → Visits C st qu mid v r → Takes C st qu w v r
   takes_visit w mid v e (Ok x) l en tk h =
-      let u = lent_at w mid (λ task cap n. Visit C task cap n (mem st qu mid) (outcome n x) (mem st qu v)) l h.1 in
-      (h.0, takes tk (subst (λ z. Visit C (task_in w) w.progress.capacity z (mem st qu mid) (outcome w.node x) (mem st qu v)) en u))
+      let u = lent_at w mid (λ task cap n. Visit C task cap n (memory_in st qu mid) (outcome n x) (memory_in st qu v)) l h.1 in
+      (h.0, takes tk (subst (λ z. Visit C (task_in w) w.progress.capacity z (memory_in st qu mid) (outcome w.node x) (memory_in st qu v)) en u))
   takes_visit w mid v e (Err Crowded) l en tk h =
-      let u = lent_at w mid (λ task cap n. Visit C task cap n (mem st qu mid) out_of_space (mem st qu v)) l h.1 in
-      (h.0, takes tk (subst (λ z. Visit C (task_in w) w.progress.capacity z (mem st qu mid) out_of_space (mem st qu v)) en u))
+      let u = lent_at w mid (λ task cap n. Visit C task cap n (memory_in st qu mid) out_of_space (memory_in st qu v)) l h.1 in
+      (h.0, takes tk (subst (λ z. Visit C (task_in w) w.progress.capacity z (memory_in st qu mid) out_of_space (memory_in st qu v)) en u))
   takes_visit w mid v e (Err Torn) l en tk h = h

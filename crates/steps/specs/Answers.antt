@@ -52,20 +52,22 @@ module _ {K S Q : Type 0} where
   abbrev pub task_in : Workspace K S Q → Task
   task_in w = task_of (held w.accepted.task)
 
-  -- the same task, node and capacity, over the same lent memory
+  -- the same task, node and capacity, over the same lent memory, of which there is as much
   pub record Lent (w v : Workspace K S Q) : Type 0 where
     pub accepted : v.accepted ≡ w.accepted
     pub node : v.node ≡ w.node
     pub capacity : v.progress.capacity ≡ w.progress.capacity
     pub rows : v.rows.ghost_name ≡ w.rows.ghost_name
+    pub bytes : length v.rows.now ≡ length w.rows.now
+    pub noted : length v.records.now ≡ length w.records.now
     pub records : v.records.ghost_name ≡ w.records.ghost_name
     pub store : v.store.ghost_name ≡ w.store.ghost_name
     pub queue : v.queue.ghost_name ≡ w.queue.ghost_name
 
 module _ {K S Q : Type 0} (st : store.Ghosts S) (qu : queue.Ghosts Q K) where
   -- what the parts of the tables mean
-  abbrev pub mem : Workspace K S Q → Memory K
-  mem w = record {
+  abbrev pub memory_in : Workspace K S Q → Memory K
+  memory_in w = record {
     bytes = w.rows.now;
     records = w.records.now;
     table = st.table w.store.now;
@@ -91,18 +93,18 @@ outcome n visited.Found = found n
 -- the relations, for the first one's task, node and capacity
 module _ {K S Q : Type 0} (C : cost.Ghosts K) (st : store.Ghosts S) (qu : queue.Ghosts Q K) (w : Workspace K S Q) where
   abbrev pub ReadyAt : Workspace K S Q → Type 0
-  ReadyAt v = Ready C (task_in w) w.progress.capacity w.node (mem st qu v)
+  ReadyAt v = Ready C (task_in w) w.progress.capacity w.node (memory_in st qu v)
 
   abbrev pub SteadyAt : Workspace K S Q → Type 0
-  SteadyAt v = Steady C (task_in w) w.progress.capacity w.node (mem st qu v)
+  SteadyAt v = Steady C (task_in w) w.progress.capacity w.node (memory_in st qu v)
 
   abbrev pub EagerAt : Workspace K S Q → Type 0
-  EagerAt v = Eager C (task_in w) w.progress.capacity w.node (mem st qu v)
+  EagerAt v = Eager C (task_in w) w.progress.capacity w.node (memory_in st qu v)
 
   -- move m is tried, or there is no space for its result
   abbrev pub Moved : ℕ → Workspace K S Q → Result (Unit {0}) Stop → Type 0
-  Moved m v (Ok x) = qu.ordered v.queue.now × One C (task_in w) w.progress.capacity w.node m (mem st qu w) (mem st qu v)
-  Moved m v (Err stop.Crowded) = Crowded C (task_in w) w.progress.capacity w.node m (mem st qu w)
+  Moved m v (Ok x) = qu.ordered v.queue.now × One C (task_in w) w.progress.capacity w.node m (memory_in st qu w) (memory_in st qu v)
+  Moved m v (Err stop.Crowded) = Crowded C (task_in w) w.progress.capacity w.node m (memory_in st qu w)
   Moved m v (Err stop.Torn) = ⊥
 
   -- from tables that are ready: nothing is refused, and they are still ready for the next move
@@ -113,19 +115,19 @@ module _ {K S Q : Type 0} (C : cost.Ghosts K) (st : store.Ghosts S) (qu : queue.
 
   -- each move is tried, or those below one that finds no space
   abbrev pub Expands : Workspace K S Q → Result (Unit {0}) Stop → Type 0
-  Expands v (Ok x) = qu.ordered v.queue.now × Upto C (task_in w) w.progress.capacity w.node (mem st qu w) (length (task_in w).moves) (mem st qu v)
+  Expands v (Ok x) = qu.ordered v.queue.now × Upto C (task_in w) w.progress.capacity w.node (memory_in st qu w) (length (task_in w).moves) (memory_in st qu v)
   Expands v (Err stop.Crowded) = qu.ordered v.queue.now
-      × ((m : ℕ) × (m < length (task_in w).moves) × Upto C (task_in w) w.progress.capacity w.node (mem st qu w) m (mem st qu v) × Crowded C (task_in w) w.progress.capacity w.node m (mem st qu v))
+      × ((m : ℕ) × (m < length (task_in w).moves) × Upto C (task_in w) w.progress.capacity w.node (memory_in st qu w) m (memory_in st qu v) × Crowded C (task_in w) w.progress.capacity w.node m (memory_in st qu v))
   Expands v (Err stop.Torn) = ⊥
 
   abbrev pub Visits : Workspace K S Q → Result Visited Stop → Type 0
-  Visits v (Ok x) = qu.ordered v.queue.now × Visit C (task_in w) w.progress.capacity w.node (mem st qu w) (outcome w.node x) (mem st qu v)
-  Visits v (Err stop.Crowded) = qu.ordered v.queue.now × Visit C (task_in w) w.progress.capacity w.node (mem st qu w) out_of_space (mem st qu v)
+  Visits v (Ok x) = qu.ordered v.queue.now × Visit C (task_in w) w.progress.capacity w.node (memory_in st qu w) (outcome w.node x) (memory_in st qu v)
+  Visits v (Err stop.Crowded) = qu.ordered v.queue.now × Visit C (task_in w) w.progress.capacity w.node (memory_in st qu w) out_of_space (memory_in st qu v)
   Visits v (Err stop.Torn) = ⊥
 
   abbrev pub Takes : Workspace K S Q → Result Visited Stop → Type 0
-  Takes v (Ok x) = qu.ordered v.queue.now × Step C (task_in w) w.progress.capacity (mem st qu w) (outcome w.node x) (mem st qu v)
-  Takes v (Err stop.Crowded) = qu.ordered v.queue.now × Step C (task_in w) w.progress.capacity (mem st qu w) out_of_space (mem st qu v)
+  Takes v (Ok x) = qu.ordered v.queue.now × Step C (task_in w) w.progress.capacity (memory_in st qu w) (outcome w.node x) (memory_in st qu v)
+  Takes v (Err stop.Crowded) = qu.ordered v.queue.now × Step C (task_in w) w.progress.capacity (memory_in st qu w) out_of_space (memory_in st qu v)
   Takes v (Err stop.Torn) = ⊥
 
 -- the counts
@@ -139,7 +141,7 @@ module _ {K S Q : Type 0} (st : store.Ghosts S) (qu : queue.Ghosts Q K) (w v : W
   -- where there is no space, nothing is written
   abbrev pub MoveCounts : Result (Unit {0}) Stop → Type 0
   MoveCounts (Ok x) = Grown
-  MoveCounts (Err stop.Crowded) = (v.store.now ≡ w.store.now) × (v.queue.now ≡ w.queue.now) × (mem st qu v ≡ mem st qu w)
+  MoveCounts (Err stop.Crowded) = (v.store.now ≡ w.store.now) × (v.queue.now ≡ w.queue.now) × (memory_in st qu v ≡ memory_in st qu w)
   MoveCounts (Err stop.Torn) = Unit {0}
 
   abbrev pub ExpandCounts : Result (Unit {0}) Stop → Type 0

@@ -63,7 +63,7 @@ module _ {K S Q : Type 0} (C : cost.Ghosts K) (st : store.Ghosts S) (qu : queue.
   Turns j s t (Ok (turned.OutOfSpace p)) = qu.ordered t.queue × Turn C task j.progress.capacity (standing st qu s j) out_of_space (memory st qu t p.stored p.cover)
 
   -- what holds of the counts whatever the order inside the queue is: the capacity stays, a job that goes on knows how full the
-  -- tables are, and a found node is stored
+  -- tables are, a found node is stored, and no more nodes are than the capacity
   abbrev pub Counts : Numbers → Tables K S Q → Result Turned Refusal → Type 0
   Counts j t (Err e) = e ≡ Torn
   Counts j t (Ok (turned.Onward k)) = (k.progress.capacity ≡ j.progress.capacity) × Known C task j.progress.capacity (standing st qu t k)

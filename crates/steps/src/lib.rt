@@ -1,6 +1,6 @@
 #![tactic(auto)]
 
-ghost use Rattle.std.specs.Prelude.{◌≡◌, ℕ, ◌+◌, ◌*◌, ◌<◌, ◌≤◌, Bool, true, false, List, length, Some, None, MatchBool, MatchOption, MatchResult, OnOk, ◌≢◌, slice_index_or, slice_set};
+ghost use Rattle.std.specs.Prelude.{◌≡◌, ℕ, ◌+◌, ◌*◌, ◌<◌, ◌≤◌, Bool, true, false, List, length, Some, None, MatchBool, MatchOption, MatchResult, ◌≢◌, slice_index_or, slice_set};
 ghost use Rattle.task.specs.Answers.{held};
 ghost use Rattle.task.specs.Files.{task_of};
 ghost use Rattle.planning.specs.Plans.{price};

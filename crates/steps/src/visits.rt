@@ -5,7 +5,7 @@ ghost use Rattle.queue.specs.Orders.{Names};
 ghost use Rattle.planning.specs.Plans.{price};
 ghost use Rattle.steps.specs.Memories.{width, row_at};
 ghost use Rattle.steps.specs.Steps.{answered, back};
-ghost use Rattle.steps.specs.Answers.{mem, task_in, Lent, ReadyAt, SteadyAt, EagerAt, Moved, MoveGranted, MoveCounts, Expands, ExpandCounts, Visits, VisitCounts, Takes, TakeCounts, Granted};
+ghost use Rattle.steps.specs.Answers.{memory_in, task_in, Lent, ReadyAt, SteadyAt, EagerAt, Moved, MoveGranted, MoveCounts, Expands, ExpandCounts, Visits, VisitCounts, Takes, TakeCounts, Granted};
 ghost use Rattle.steps.specs.Results.{Adds};
 
 use crate::numbers::Progress;
@@ -107,7 +107,7 @@ impl<K: Cost, S: Store, Q: Queue<K>> Workspace<'_, '_, '_, '_, '_, K, S, Q> {
     // Notes the rank that was answered.
     fn answer(&mut self, rank: u16)
         ensures lent { Lent self.old self.new }
-        ensures answered { mem S.Store Q.Queue self.new ≡ answered (mem S.Store Q.Queue self.old) rank }
+        ensures answered { memory_in S.Store Q.Queue self.new ≡ answered (memory_in S.Store Q.Queue self.old) rank }
         ensures tables { (self.new.store.now ≡ self.old.store.now) × (self.new.queue.now ≡ self.old.queue.now) }
     {
         let Progress {

@@ -8,10 +8,9 @@ use crate::faults::Fault;
 use crate::first_name;
 use crate::tables::{Step, Task};
 use rows::checks::{MOST_VARIABLES, fits, has_values, is_complete};
+use rows::operators::HIGHEST_PRICE;
 
 const MOST_MOVES: usize = 4096;
-
-const HIGHEST_PRICE: u32 = 1_000_000_000;
 
 const LONGEST_NAME: usize = 40;
 

@@ -25,7 +25,7 @@ pub use sample::write_sample;
 use tables::Step;
 pub use writer::write;
 
-// The bytes of the longest task file that is read.
+// The bytes of the longest task file that the device and the programs take; the reader itself has no limit.
 pub const LONGEST_FILE: usize = 32_768;
 
 // The 32-bit number at a place, low byte first.

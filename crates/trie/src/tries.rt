@@ -3,7 +3,7 @@ ghost use Rattle.rows.specs.Rows.{fits, covers_at};
 ghost use Rattle.store.specs.Stores.{space_of};
 ghost use Rattle.trie.specs.Cells.{IsSound, rows_in, linked, blank};
 ghost use Rattle.trie.specs.Laws.{trie_lawful};
-ghost use Rattle.trie.specs.Lookups.{Looks, Looked, Goes, Gone, Branch, Deepest};
+ghost use Rattle.trie.specs.Lookups.{Looks, Looked, Branch, Deepest};
 
 use crate::cells::Cell;
 use rows::checks::{MARK, fits};

@@ -1,7 +1,7 @@
 use Rattle.std.proofs.Common.{◌≡◌, ◌-◌, ◌<◌, length}
 use Rattle.std.specs.List.Sorted.{IsPermutation}
 use Rattle.queue.specs.Places.{room}
-use Rattle.queue.specs.Held.{held}
+use Rattle.queue.specs.Items.{items}
 use Rattle.heap.specs.Heaps.{Heaped}
 use Rattle.heap.proofs.HeapRows.{Raising}
 use Rattle.heap.proofs.heaps.sift_up.Given as goal
@@ -11,9 +11,9 @@ invariant-loop-at g l =
     let old = l.initial.heap in
     (l.heap.places.ghost_name ≡ old.places.ghost_name)
     × (room l.heap.places.now ≡ room old.places.now)
-    × IsPermutation (held old) (held l.heap)
-    × (l.at < length (held l.heap))
-    × (Heaped g.K.Cost (held old) (length (held old) - 1) → Raising g.K.Cost (held l.heap) (length (held l.heap)) l.at)
+    × IsPermutation (items old) (items l.heap)
+    × (l.at < length (items l.heap))
+    × (Heaped g.K.Cost (items old) (length (items old) - 1) → Raising g.K.Cost (items l.heap) (length (items l.heap)) l.at)
 
 abbrev pub decreases-loop-at : goal.decreases-loop-at
 decreases-loop-at g l = l.at

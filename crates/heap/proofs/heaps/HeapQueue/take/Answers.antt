@@ -1,6 +1,6 @@
 use Rattle.std.proofs.Common.{arith}
 use Rattle.std.proofs.lemmas.List.Sorted.{IsPermutation-trans, IsPermutation-sym, IsPermutation-cons, length_permutation}
-use Rattle.queue.specs.Held.{held}
+use Rattle.queue.specs.Items.{items}
 use Rattle.queue.proofs.Fronts.{taken_out}
 use Rattle.heap.proofs.HeapRows.{rooted_from, root_least}
 use Rattle.heap.proofs.heaps.HeapQueue.take.Goals as goal
@@ -11,7 +11,7 @@ returns-clause-count g c =
     omega (
       arith,
       length_permutation _ _ c.sift_down.ensures.same,
-      length_permutation _ _ (taken_out (held c.args.self.now.waiting) (held c.swap_remove.new.self) 0 c.in_ok-root.root out.0 out.1 out.2),
+      length_permutation _ _ (taken_out (items c.args.self.now.waiting) (items c.swap_remove.new.self) 0 c.in_ok-root.root out.0 out.1 out.2),
     )
 
 pub returns-clause-ordered : goal.returns-clause-ordered

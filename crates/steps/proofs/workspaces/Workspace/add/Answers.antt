@@ -5,7 +5,7 @@ use Rattle.queue.specs.declared.entries.Entry.{Entry}
 use Rattle.queue.specs.Orders.{Added}
 use Rattle.steps.specs.Memories.{Memory, width, written}
 use Rattle.steps.specs.Steps.{stores}
-use Rattle.steps.specs.Answers.{mem, task_in, ReadyAt}
+use Rattle.steps.specs.Answers.{memory_in, task_in, ReadyAt}
 use Rattle.steps.specs.Results.{Fresh}
 use Rattle.steps.proofs.Tasks.{accepted_task, back_fits, fits_length, fair_price}
 use Rattle.steps.proofs.Moves.{ready_one, ready_as_many, joined_at, at_width}
@@ -30,7 +30,7 @@ returns g c =
     let row = take (width task) c.args.scratch.now in
     let k = w.progress.stored in
     let acc = accepted_task (held a.task) a.counted a.positioned a.priced in
-    let s = mem g.S.Store g.Q.Queue w in
+    let s = memory_in g.S.Store g.Q.Queue w in
     let e : Entry g.row.K.Denot = record { cost = c.in_ok-cost.cost; number = k } in
     let t : Memory g.row.K.Denot = record { bytes = c.write_row.new.bytes; records = c.note.new.records; table = s.table; kept = s.kept; space = s.space; waiting = e ∷ s.waiting; room = g.Q.Queue.room c.put.new.self; stored = k + 1; cover = s.cover } in
     let one = λ (f : Fresh g.K.Cost g.S.Store g.Q.Queue c.args.m c.args.price row w) (rd : ReadyAt g.K.Cost g.S.Store g.Q.Queue w w) (v : List (Entry g.row.K.Denot)) (ad : Added s.waiting e v).
@@ -50,7 +50,7 @@ returns g c =
       cover = refl;
     }) in
     record {
-      lent = record { accepted = refl; node = refl; capacity = refl; rows = refl; records = refl; store = refl; queue = refl };
+      lent = record { accepted = refl; node = refl; capacity = refl; rows = refl; bytes = c.write_row.auto.bytes; noted = c.note.auto.records; records = refl; store = refl; queue = refl };
       counts = record { more = omega arith; store = refl; waits = omega (arith, c.in_ok-put.ensures.count.1) };
       granted = λ f rd. ready_as_many g.K.Cost task w.progress.capacity t (g.Q.Queue.entries c.put.new.self) (omega (arith, c.in_ok-put.ensures.count.1)) (ready_one g.K.Cost task w.progress.capacity acc rd (one f rd (e ∷ s.waiting) (IsPermutation-refl (e ∷ s.waiting))));
       moved = λ f o rd. (c.put.ensures.ordered o, one f rd (g.Q.Queue.entries c.put.new.self) (c.in_ok-put.ensures.entries o));

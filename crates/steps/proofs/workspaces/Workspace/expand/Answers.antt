@@ -1,6 +1,6 @@
 use Rattle.std.proofs.Common.{refl, arith}
 use Rattle.steps.specs.Steps.{One, none, more}
-use Rattle.steps.specs.Answers.{mem, Ready}
+use Rattle.steps.specs.Answers.{memory_in, Ready}
 use Rattle.steps.proofs.Additions.{lent_same, lent_then, lent_at, lent_from, grown_then}
 use Rattle.steps.proofs.workspaces.Workspace.expand.Goals as goal
 
@@ -13,8 +13,8 @@ loop-m-preserved g c =
     let e = c.in_ok-try_move.ensures in
     let w = c.args.self.now in
     let v = c.loop-m.self in
-    let s = mem g.S.Store g.Q.Queue v in
-    let t = mem g.S.Store g.Q.Queue c.try_move.new.self in
+    let s = memory_in g.S.Store g.Q.Queue v in
+    let t = memory_in g.S.Store g.Q.Queue c.try_move.new.self in
     record {
       lent = lent_then i.lent e.lent;
       counts = grown_then g.S.Store g.Q.Queue i.counts e.counts;

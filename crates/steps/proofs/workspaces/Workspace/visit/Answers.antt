@@ -5,7 +5,7 @@ use Rattle.store.proofs.Known.{only_full, not_held}
 use Rattle.uniform.specs.Steps.{skipped}
 use Rattle.steps.specs.Memories.{Memory, width, row_at}
 use Rattle.steps.specs.Steps.{Visit, skips, finds, expands, Kept}
-use Rattle.steps.specs.Answers.{mem, task_in}
+use Rattle.steps.specs.Answers.{memory_in, task_in}
 use Rattle.steps.proofs.Moves.{found_some, found_none}
 use Rattle.steps.proofs.Readies.{ready_kept, visits_stop}
 use Rattle.steps.proofs.Additions.{granted_err}
@@ -15,7 +15,7 @@ pub returns-in-Some-clause-visits : goal.returns-in-Some-clause-visits
 returns-in-Some-clause-visits g c = λ o sd.
     let w = c.args.self.now in (
       subst g.Q.Queue.ordered (sym c.answer.ensures.tables.1) o,
-      subst (λ z. Visit g.K.Cost (task_in w) w.progress.capacity w.node (mem g.S.Store g.Q.Queue w) skipped z) (sym c.answer.ensures.answered)
+      subst (λ z. Visit g.K.Cost (task_in w) w.progress.capacity w.node (memory_in g.S.Store g.Q.Queue w) skipped z) (sym c.answer.ensures.answered)
           (skips (subst (λ z. CoverAt (g.S.Store.kept w.store.now) z c.in-Some.rank) c.fetch.ensures (found_some c.in-Some.is c.in_ok-rank.ensures.1))),
     )
 
@@ -43,7 +43,7 @@ returns-in_err-keep-clause-visits g c = λ o sd.
 pub returns-in_err-expand-clause-granted : goal.returns-in_err-expand-clause-granted
 returns-in_err-expand-clause-granted g c = λ sd.
     let w = c.args.self.now in
-    let s = mem g.S.Store g.Q.Queue w in
+    let s = memory_in g.S.Store g.Q.Queue w in
     let kept = g.S.Store.kept w.store.now in
     let t : Memory g.row.K.Denot = record { bytes = s.bytes; records = s.records; table = g.S.Store.table c.keep.new.self; kept = g.S.Store.kept c.keep.new.self; space = g.S.Store.space c.keep.new.self; waiting = s.waiting; room = s.room; stored = s.stored; cover = s.cover } in
     let kp : Kept g.K.Cost (task_in w) (take c.variables-v.result c.fetch.new.scratch) s t = record { kept = c.in_ok-keep.ensures.answer.3; bytes = refl; records = refl; table = c.keep.ensures.values; space = c.keep.ensures.space; waiting = refl; room = refl; stored = refl; cover = refl } in
@@ -53,7 +53,7 @@ pub returns-in_err-expand-clause-visits : goal.returns-in_err-expand-clause-visi
 returns-in_err-expand-clause-visits g c = λ o sd.
     let w = c.args.self.now in
     let task = task_in w in
-    let s = mem g.S.Store g.Q.Queue w in
+    let s = memory_in g.S.Store g.Q.Queue w in
     let kept = g.S.Store.kept w.store.now in
     let row = row_at (width task) w.rows.now w.node in
     let e : take c.variables-v.result c.fetch.new.scratch ≡ row = subst (λ z. take z c.fetch.new.scratch ≡ row) (sym c.variables-v.ensures) c.fetch.ensures in
@@ -61,7 +61,7 @@ returns-in_err-expand-clause-visits g c = λ o sd.
     let kp : Kept g.K.Cost task row s t = record { kept = c.in_ok-keep.ensures.answer.3 ∙ ap (λ z. kept ++ z ∷ []) e; bytes = refl; records = refl; table = c.keep.ensures.values; space = c.keep.ensures.space; waiting = refl; room = refl; stored = refl; cover = refl } in
     let mid = record w { store = record w.store { now = c.keep.new.self } } in
     visits_stop g.K.Cost g.S.Store g.Q.Queue w mid c.expand.new.self _ _ c.from_residual-in_err-expand.ensures.1
-    (record { accepted = refl; node = refl; capacity = refl; rows = refl; records = refl; store = refl; queue = refl })
+    (record { accepted = refl; node = refl; capacity = refl; rows = refl; bytes = refl; noted = refl; records = refl; store = refl; queue = refl })
     (subst (λ z. Uncovered kept z) c.fetch.ensures (found_none c.in_default.is c.in_ok-rank.ensures.1)) (ap (λ z. covers z task.start) (sym c.fetch.ensures) ∙ sym c.if-agrees.ensures) kp
     (c.in_err-expand.ensures.expands o (ready_kept g.K.Cost task w.progress.capacity sd kp))
 
@@ -69,7 +69,7 @@ pub returns-clause-visits : goal.returns-clause-visits
 returns-clause-visits g c = λ o sd.
     let w = c.args.self.now in
     let task = task_in w in
-    let s = mem g.S.Store g.Q.Queue w in
+    let s = memory_in g.S.Store g.Q.Queue w in
     let kept = g.S.Store.kept w.store.now in
     let row = row_at (width task) w.rows.now w.node in
     let e : take c.variables-v.result c.fetch.new.scratch ≡ row = subst (λ z. take z c.fetch.new.scratch ≡ row) (sym c.variables-v.ensures) c.fetch.ensures in

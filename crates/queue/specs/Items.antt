@@ -3,5 +3,5 @@ use Rattle.std.specs.Prelude.{List}
 use Rattle.queue.specs.declared.waiting.Waiting.{Waiting}
 use Rattle.queue.specs.Places.{front}
 
-abbrev pub held : {X : Type 0} → Waiting X → List X
-held w = front w.count w.places.now
+abbrev pub items : {X : Type 0} → Waiting X → List X
+items w = front w.count w.places.now

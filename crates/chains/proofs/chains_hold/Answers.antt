@@ -1,5 +1,5 @@
 use Rattle.chains.proofs.Chains.{never_both, one_chain, few_moves, one_reading}
-use Rattle.chains.proofs.chains_are.Goals as goal
+use Rattle.chains.proofs.chains_hold.Goals as goal
 
 pub returns : goal.returns
 returns g c = record {
