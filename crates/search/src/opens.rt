@@ -42,8 +42,8 @@ pub fn open<K: Cost, S: Store, Q: Queue<K>>(
 ) -> Result<Searching, Refusal>
     ensures { Opens K.Cost S.Store Q.Queue file.now t.old t.new result }
 {
-    match read(file) {
-        Err(_) => Err(Refusal::BadFile),
-        Ok(accepted) => open_on(&accepted, t),
-    }
+    let Ok(accepted) = read(file) else {
+        return Err(Refusal::BadFile);
+    };
+    open_on(&accepted, t)
 }

@@ -96,10 +96,10 @@ impl Found {
     ) -> Result<usize, Refusal>
         ensures { ReadsPlan file.now self.now t.now out.old result out.new }
     {
-        match read(file) {
-            Err(_) => Err(Refusal::Torn),
-            Ok(accepted) => self.plan_on(&accepted, t, out),
-        }
+        let Ok(accepted) = read(file) else {
+            return Err(Refusal::Torn);
+        };
+        self.plan_on(&accepted, t, out)
     }
 
     // The cost noted of the found node. Refused Torn where reading the plan is.
@@ -110,9 +110,9 @@ impl Found {
     ) -> Result<K, Refusal>
         ensures { ReadsCost file.now self.now t.now result }
     {
-        match read(file) {
-            Err(_) => Err(Refusal::Torn),
-            Ok(accepted) => self.cost_on(&accepted, t),
-        }
+        let Ok(accepted) = read(file) else {
+            return Err(Refusal::Torn);
+        };
+        self.cost_on(&accepted, t)
     }
 }
