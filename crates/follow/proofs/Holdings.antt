@@ -24,8 +24,10 @@ use Rattle.steps.specs.Steps.{Joined, Stored, Taken, Kept, Sound}
 use Rattle.steps.specs.Steps as steps
 use Rattle.steps.specs.Holdings.{HeldNode, Held, Ample}
 use Rattle.follow.proofs.Shuffles.{shuffled_without, shuffled_push, shuffled_map, in_shuffled}
-use Rattle.follow.proofs.Parts.{row_within, row_below, row_stored, written_length}
-use Rattle.follow.proofs.Places.{at_set, at_other, at_one, nth_get_or, has_in, in_has}
+use Rattle.follow.proofs.Parts.{row_within, written_length}
+use Rattle.steps.proofs.Parts.{row_below, row_stored}
+use Rattle.follow.proofs.Places.{at_set, at_one, nth_get_or, has_in, in_has}
+use Rattle.steps.proofs.Moves.{at_other}
 
 -- what stands in a list that is one longer stood there before, or is the last
 last_or : {X : Type 0} (xs : List X) (y x : X) (n : ℕ) → nth (xs ++ y ∷ []) n ≡ Some x → ((n ≡ length xs) × (x ≡ y)) ⊎ ((n < length xs) × (nth xs n ≡ Some x))

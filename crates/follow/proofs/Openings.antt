@@ -17,7 +17,8 @@ use Rattle.steps.specs.Holdings.{HeldNode}
 use Rattle.steps.specs.Begins.{capacity}
 use Rattle.follow.specs.Workings.{OpensHold}
 use Rattle.follow.proofs.Shuffles.{shuffled_map}
-use Rattle.follow.proofs.Parts.{row_within, row_stored, written_length}
+use Rattle.follow.proofs.Parts.{row_within, written_length}
+use Rattle.steps.proofs.Parts.{row_stored}
 use Rattle.follow.proofs.Places.{at_set}
 use Rattle.follow.proofs.Holdings.{has_cons}
 

@@ -9,11 +9,6 @@ use Rattle.steps.specs.Memories.{At}
 pub at_set : {X : Type 0} (xs : List X) (i : ℕ) (a : X) → i < length xs → At (set xs i a) i a
 at_set xs i a h = record { below = simp length-set h; is = get_or-set_same xs i a a h }
 
-pub at_other : {X : Type 0} (xs : List X) (i n : ℕ) (a x : X) → n < i → At xs n x → At (set xs i a) n x
-at_other xs i n a x h at =
-    let ne : n ≢ i = omega arith in
-    record { below = simp length-set at.below; is = get_or-set_other xs i n a x ne ∙ at.is }
-
 -- one element stands at a place
 pub at_one : {X : Type 0} (xs : List X) (n : ℕ) (x y : X) → At xs n x → At xs n y → x ≡ y
 at_one [] n x y a b = absurd (let z = a.below in omega arith)

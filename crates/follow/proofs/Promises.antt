@@ -24,7 +24,8 @@ use Rattle.steps.specs.Begins.{capacity}
 use Rattle.search.specs.Works.{Works}
 use Rattle.follow.specs.Histories.{History, went, capacity_of, Chain}
 use Rattle.follow.specs.Promises.{most, Finds, AsDefined, StepsAsDefined, NeverRefused, FoundIsCheapest, NoPlanIsNone, SpaceSuffices, JobsEnd}
-use Rattle.follow.proofs.Tasks.{accepted, move_count_lem, read_one}
+use Rattle.follow.proofs.Tasks.{accepted, read_one}
+use Rattle.steps.proofs.Tasks.{move_count_lem}
 use Rattle.follow.proofs.Chains.{chain_unique, chain_of}
 use Rattle.follow.proofs.Histories.{Live, Over, State, state, never_refused}
 

@@ -17,7 +17,7 @@ use Rattle.search.specs.declared.jobs.Worked.{Worked}
 use Rattle.search.specs.declared.jobs.Worked.TheVariants as worked
 use Rattle.follow.specs.Histories.{ended, capacity_of, Chain}
 use Rattle.follow.specs.Promises.{SameFound, Repeatable}
-use Rattle.follow.proofs.Tasks.{move_count_lem}
+use Rattle.steps.proofs.Tasks.{move_count_lem}
 use Rattle.follow.proofs.Chains.{chain_unique, chain_of}
 use Rattle.follow.proofs.Histories.{State, state}
 use Rattle.follow.proofs.Promises.{law, OverAt, Both, both, over_at}
