@@ -3,7 +3,7 @@ use arrayvec::ArrayVec;
 use cost::costs::Cost;
 use queue::queues::Queue;
 use rows::refusals::Refusal;
-use search::jobs::{Found, Searching, Worked};
+use search::jobs::{Found, Worked};
 use search::opens::open;
 use std::fmt;
 use steps::tables::Tables;
@@ -24,7 +24,6 @@ pub enum Ending {
     },
     NoPlan,
     OutOfSpace,
-    Refused,
     Endless,
 }
 
@@ -36,24 +35,12 @@ pub struct Answer {
     pub stored: u16,
 }
 
-impl Answer {
-    // A call was refused, after so many steps.
-    fn refused(steps: u32) -> Answer {
-        Answer {
-            ending: Ending::Refused,
-            steps,
-            stored: 0,
-        }
-    }
-}
-
 impl fmt::Display for Ending {
     fn fmt<W: fmt::Write>(&self, f: &mut fmt::Formatter<W>) -> fmt::Result {
         match self {
             Ending::Found { amount: _, plan: _ } => write!(f, "found"),
             Ending::NoPlan => write!(f, "no plan"),
             Ending::OutOfSpace => write!(f, "out of space"),
-            Ending::Refused => write!(f, "refused"),
             Ending::Endless => write!(f, "endless"),
         }
     }
@@ -76,40 +63,17 @@ fn found<K: Cost, S: Store, Q: Queue<K>>(
     })
 }
 
-// Works a job step by step to its end.
+// What is told of a job that was worked to its end.
 fn finish<K: Cost, S: Store, Q: Queue<K>>(
-    from: Searching,
+    worked: &Worked,
     file: &[u8],
-    t: &mut Tables<'_, K, S, Q>,
-) -> Answer {
-    let mut job = from;
-    let mut steps = 0u32;
-    for _ in 0..TURNS {
-        let Ok(went) = job.work(file, t, 1) else {
-            return Answer::refused(steps);
-        };
-        let (worked, done) = went;
-        steps = steps.saturating_add(done);
-        let stored = worked.stored();
-        let ending = match worked {
-            Worked::Searching(j) => {
-                job = j;
-                continue;
-            }
-            Worked::Found(j) => found(&j, file, t).unwrap_or(Ending::Refused),
-            Worked::NoPlan(_) => Ending::NoPlan,
-            Worked::OutOfSpace(_) => Ending::OutOfSpace,
-        };
-        return Answer {
-            ending,
-            steps,
-            stored,
-        };
-    }
-    Answer {
-        ending: Ending::Endless,
-        steps,
-        stored: 0,
+    t: &Tables<'_, K, S, Q>,
+) -> Result<Ending, Refusal> {
+    match worked {
+        Worked::Searching(_) => Ok(Ending::Endless),
+        Worked::Found(j) => found(j, file, t),
+        Worked::NoPlan(_) => Ok(Ending::NoPlan),
+        Worked::OutOfSpace(_) => Ok(Ending::OutOfSpace),
     }
 }
 
@@ -117,9 +81,11 @@ fn finish<K: Cost, S: Store, Q: Queue<K>>(
 pub fn work_out<K: Cost, S: Store, Q: Queue<K>>(
     file: &[u8],
     t: &mut Tables<'_, K, S, Q>,
-) -> Answer {
-    match open(file, t) {
-        Ok(job) => finish(job, file, t),
-        Err(_) => Answer::refused(0),
-    }
+) -> Result<Answer, Refusal> {
+    let (worked, steps) = open(file, t)?.work(file, t, TURNS)?;
+    Ok(Answer {
+        ending: finish(&worked, file, t)?,
+        steps,
+        stored: worked.stored(),
+    })
 }

@@ -14,6 +14,7 @@ use heap::heaps::Heap;
 use queue::entries::Entry;
 use queue::queues::Queue;
 use queue::scanned_row::ScannedRow;
+use rows::refusals::Refusal;
 use std::io;
 use std::io::Write;
 use steps::tables::{Record, Tables};
@@ -42,21 +43,14 @@ fn told<K: Cost, S: Store + Drop, Q: Queue<K> + Drop>(
     records: &mut [Record<K>],
     store: S,
     queue: Q,
-) -> Answer {
+) -> Result<Answer, Refusal> {
     let mut t = Tables {
         rows: &mut [0; BYTES],
         records,
         store,
         queue,
     };
-    let a = work_out(file, &mut t);
-    let Tables {
-        rows: _,
-        records: _,
-        store: _,
-        queue: _,
-    } = t;
-    a
+    work_out(file, &mut t)
 }
 
 // Prints the moves of a plan by name.
@@ -72,7 +66,11 @@ fn show_plan(rt: &HostRuntime, file: &[u8], plan: &[u16]) -> io::Result<()> {
 }
 
 // Prints what was told in a pair of makes, on a line of its own.
-fn show(rt: &HostRuntime, makes: &str, file: &[u8], a: &Answer) -> io::Result<()> {
+fn show(rt: &HostRuntime, makes: &str, file: &[u8], told: &Result<Answer, Refusal>) -> io::Result<()> {
+    let a = match told {
+        Ok(a) => a,
+        Err(refusal) => return print!(rt; "\n  {makes}: {refusal}"),
+    };
     let ending = &a.ending;
     let steps = a.steps;
     let stored = a.stored;
@@ -89,7 +87,7 @@ fn told_in_pairs<K: Cost>(
     file: &[u8],
     c: &Case,
     nodes: &mut Nodes<'_, K>,
-) -> [(&'static str, Answer); 4] {
+) -> [(&'static str, Result<Answer, Refusal>); 4] {
     let records = &mut *nodes.records;
     let entries = &mut *nodes.entries;
     let n = c.capacity.min(records.len());
@@ -113,7 +111,7 @@ fn told_in_pairs<K: Cost>(
 }
 
 // A line for each pair of makes, and whether they told the same.
-fn show_pairs(rt: &HostRuntime, file: &[u8], answers: &[(&'static str, Answer)]) -> io::Result<()> {
+fn show_pairs(rt: &HostRuntime, file: &[u8], answers: &[(&'static str, Result<Answer, Refusal>)]) -> io::Result<()> {
     for (makes, a) in answers {
         show(rt, makes, file, a)?;
     }
