@@ -9,7 +9,7 @@ use Rattle.cost.specs.Costs.{Arithmetic, NotAfter, cost_of}
 use Rattle.cost.specs.Kinds.{spend, spend_then_moves, peak, tally, Tally}
 use Rattle.cost.specs.Plans.{Largest, PlanRefused}
 use Rattle.rows.specs.declared.refusals.Refusal.{Refusal}
-use Rattle.rows.specs.declared.refusals.Refusal.TheVariants.{Price}
+use Rattle.rows.specs.declared.refusals.Refusal.TheVariants.{Price, Long}
 
 module _ (a : Arithmetic) where
   pub kept : (ps qs rs : List ℕ) → NotAfter a (cost_of a qs) (cost_of a rs) → NotAfter a (cost_of a (ps ++ qs)) (cost_of a (ps ++ rs))
@@ -59,9 +59,9 @@ peak_is (p ∷ ps) = largest p ps (cost_of peak ps) (peak_is ps)
 
 -- a price stands between those before it and those after it
 pub price_refused : (ps before rest : List ℕ) (p : ℕ) (e : Refusal) → length ps ≤ 65535 → ps ≡ before ++ p ∷ rest →
-    ((e ≡ Price) × (1000000000 < p)) ⊎ (65535 < 1 + length rest) → PlanRefused ps e
+    ((e ≡ Price) × (1000000000 < p)) ⊎ ((e ≡ Long) × (p ≤ 1000000000) × (65535 < 1 + length rest)) → PlanRefused ps e
 price_refused ps before rest p e short is =
     let long : length ps ≡ length before + (1 + length rest) = rw is (simp length-append (omega arith)) in
     ⊎_elim
     (λ h. inr (h.0, short, (length before, omega arith, rw (is, get_or-append_seam before p rest 0) h.1)))
-    (λ h. absurd (omega arith))
+    (λ h. absurd (omega (arith, h.2)))

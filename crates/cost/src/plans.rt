@@ -21,9 +21,9 @@ pub fn plan_cost<K: Cost>(prices: &[u32]) -> Result<K, Refusal>
     Ok(cost)
 }
 
-// The cost of a move at this price and then the rest.
-fn prepend<K: Cost>(price: u32, rest: K) -> Result<K, Refusal>
-    ensures { MatchResult result (λ k. (price ≤ 1000000000) × (K.Cost.value k ≡ K.Cost.arithmetic.joined (K.Cost.arithmetic.priced price) (K.Cost.value rest)) × (K.Cost.joins k ≡ 1 + K.Cost.joins rest) × Within (K.Cost.plain k) (K.Cost.joins k)) (λ e. ((e ≡ Refusal.Price) × (1000000000 < price)) ⊎ (65535 < 1 + K.Cost.joins rest)) }
+// The cost of a move at this price and then the rest; refused Price, then Long.
+pub fn prepend<K: Cost>(price: u32, rest: K) -> Result<K, Refusal>
+    ensures { MatchResult result (λ k. (price ≤ 1000000000) × (K.Cost.value k ≡ K.Cost.arithmetic.joined (K.Cost.arithmetic.priced price) (K.Cost.value rest)) × (K.Cost.joins k ≡ 1 + K.Cost.joins rest) × Within (K.Cost.plain k) (K.Cost.joins k)) (λ e. ((e ≡ Refusal.Price) × (1000000000 < price)) ⊎ ((e ≡ Refusal.Long) × (price ≤ 1000000000) × (65535 < 1 + K.Cost.joins rest))) }
 {
     K::price(price)?.join(rest)
 }

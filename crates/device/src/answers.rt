@@ -25,10 +25,10 @@ use trie::tries::Trie;
 // The nodes that there is space for, whatever their rows.
 const NODES: usize = 1024;
 
-// The bytes for the nodes' rows, and the cells for the kept ones.
+// The bytes for the nodes' rows, and the cells for the kept ones, one more.
 const BYTES: usize = 4096;
 
-const CELLS: usize = 4097;
+const CELLS: usize = BYTES + 1;
 
 // An input that was read as a task.
 #[derive(Clone, Copy)]

@@ -43,10 +43,7 @@ fn put_cost(out: &mut [u8], amount: &str) -> usize
 fn name_of<'a>(accepted: &Accepted<'a>, k: u16) -> &'a [u8]
     ensures { result.now ≡ name_of (held accepted.now.task) k }
 {
-    match accepted.name(usize::from(k)) {
-        Some((name, _)) => name,
-        None => b"",
-    }
+    accepted.name(usize::from(k)).map_or(b"", |(name, _)| name)
 }
 
 // Whether the lines of these moves' names fit so many bytes.

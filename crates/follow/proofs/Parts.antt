@@ -1,9 +1,8 @@
 -- Rows among bytes.
-use Rattle.std.proofs.Common.{◌≡◌, ℕ, ◌+◌, ◌-◌, ◌*◌, ◌<◌, ◌≤◌, List, ◌++◌, length, take, drop, sym, ap, ◌∙◌, subst, mul-le-mul_right, add-mul, one-mul, arith, length-take-le, take-take, drop_at}
-use lib.Seq.{length-paste, take-append-le, length_paste_head, take-paste, take-length}
-use Rattle.std.proofs.lemmas.Slice.{between_is}
+use Rattle.std.proofs.Common.{◌≡◌, ℕ, ◌+◌, ◌*◌, ◌<◌, ◌≤◌, List, length, mul-le-mul_right, add-mul, one-mul, arith}
+use lib.Seq.{length-paste}
 use Rattle.rows.specs.Rows.{Row}
-use Rattle.steps.specs.Memories.{row_at, written}
+use Rattle.steps.specs.Memories.{written}
 
 -- the rows up to number n lie within the space of cap rows
 pub row_within : (n cap v l : ℕ) → n < cap → cap * v ≤ l → (n + 1) * v ≤ l

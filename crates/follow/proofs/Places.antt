@@ -1,5 +1,5 @@
 -- What stands at a place, said in the ways of tables and of runs.
-use Rattle.std.proofs.Common.{◌≡◌, ℕ, zero, suc, ◌<◌, ◌≢◌, List, [], ◌∷◌, map, length, get_or, set, Some, sym, refl, ap, ◌∙◌, inl, inr, arith, length-set, get_or-set_other, get_or-set_same}
+use Rattle.std.proofs.Common.{◌≡◌, ℕ, zero, suc, ◌<◌, List, [], ◌∷◌, map, length, get_or, set, Some, sym, refl, ap, ◌∙◌, inl, inr, arith, length-set, get_or-set_same}
 use Rattle.std.specs.List.{ContainsAt as Has}
 use Rattle.rows.specs.Tasks.{nth}
 use Rattle.planning.specs.Lists.{In}

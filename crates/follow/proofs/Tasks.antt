@@ -1,13 +1,8 @@
 -- The task in an accepted file.
-use Rattle.std.proofs.Common.{◌≡◌, ℕ, zero, suc, ◌+◌, ◌<◌, true, ◌&&◌, ltb, leb, List, map, length, Some, Ok, Result, sym, refl, ap, ◌∙◌, subst, arith}
-use Rattle.std.proofs.lemmas.Bool.{and_parts, and_from, leb-true}
-use Rattle.std.specs.List.{range_with_len}
-use Rattle.rows.specs.Rows.{fits, complete, valued}
-use Rattle.rows.specs.Tasks.{nth, MoveFits, Accepted}
+use Rattle.std.proofs.Common.{◌≡◌, ℕ, List, Ok, Result, sym, ◌∙◌}
+use Rattle.rows.specs.Tasks.{Accepted}
 use Rattle.task.specs.declared.faults.Fault.{Fault}
-use Rattle.task.specs.Files.{Bodies, width, move_count, move_at, counts, positions, prices, rows_fit, reading, task_of}
-use Rattle.task.proofs.Eaches.{each_at}
-use Rattle.task.proofs.Judgings.{counted}
+use Rattle.task.specs.Files.{Bodies, reading, task_of}
 use Rattle.task.proofs.Readings.{read_parts}
 use Rattle.steps.proofs.Tasks.{accepted_task}
 

@@ -32,7 +32,8 @@ pub fn node_space<K: Cost>(rows: usize, records: usize, kept: usize, waiting: us
     ensures opens { (task : Task) → OpensHold K.Cost task }
 {
     opens_hold::<K>();
-    rows.min(records).min(kept.min(waiting).min(65535))
+    rows.min(records)
+        .min(kept.min(waiting).min(usize::from(u16::MAX)))
 }
 
 // Holds the proof that work on tables that hold a run is work on the run.

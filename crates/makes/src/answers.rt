@@ -63,7 +63,7 @@ fn found<K: Cost, S: Store, Q: Queue<K>>(
     })
 }
 
-// What is told of a job that was worked to its end.
+// What is told of a job that has ended.
 fn finish<K: Cost, S: Store, Q: Queue<K>>(
     worked: &Worked,
     file: &[u8],
@@ -77,15 +77,31 @@ fn finish<K: Cost, S: Store, Q: Queue<K>>(
     }
 }
 
-// Opens a job in new tables, and works it to its end.
+// Opens a job in new tables, and works it step by step to its end.
 pub fn work_out<K: Cost, S: Store, Q: Queue<K>>(
     file: &[u8],
     t: &mut Tables<'_, K, S, Q>,
 ) -> Result<Answer, Refusal> {
-    let (worked, steps) = open(file, t)?.work(file, t, TURNS)?;
+    let mut job = open(file, t)?;
+    let mut steps = 0u32;
+    for _ in 0..TURNS {
+        // one step at a time, so that going on with a job is run, too
+        let (worked, done) = job.work(file, t, 1)?;
+        steps = steps.saturating_add(done);
+        match worked {
+            Worked::Searching(j) => job = j,
+            ended => {
+                return Ok(Answer {
+                    ending: finish(&ended, file, t)?,
+                    steps,
+                    stored: ended.stored(),
+                });
+            }
+        }
+    }
     Ok(Answer {
-        ending: finish(&worked, file, t)?,
+        ending: Ending::Endless,
         steps,
-        stored: worked.stored(),
+        stored: 0,
     })
 }

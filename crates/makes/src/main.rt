@@ -66,7 +66,12 @@ fn show_plan(rt: &HostRuntime, file: &[u8], plan: &[u16]) -> io::Result<()> {
 }
 
 // Prints what was told in a pair of makes, on a line of its own.
-fn show(rt: &HostRuntime, makes: &str, file: &[u8], told: &Result<Answer, Refusal>) -> io::Result<()> {
+fn show(
+    rt: &HostRuntime,
+    makes: &str,
+    file: &[u8],
+    told: &Result<Answer, Refusal>,
+) -> io::Result<()> {
     let a = match told {
         Ok(a) => a,
         Err(refusal) => return print!(rt; "\n  {makes}: {refusal}"),
@@ -111,7 +116,11 @@ fn told_in_pairs<K: Cost>(
 }
 
 // A line for each pair of makes, and whether they told the same.
-fn show_pairs(rt: &HostRuntime, file: &[u8], answers: &[(&'static str, Result<Answer, Refusal>)]) -> io::Result<()> {
+fn show_pairs(
+    rt: &HostRuntime,
+    file: &[u8],
+    answers: &[(&'static str, Result<Answer, Refusal>)],
+) -> io::Result<()> {
     for (makes, a) in answers {
         show(rt, makes, file, a)?;
     }
@@ -157,6 +166,7 @@ fn no_entry<K: Cost>() -> Entry<K> {
     }
 }
 
+// Three times the same, since the check knows the length of an array only where its type is no parameter (as in `queue_order`).
 fn main(rt: HostRuntime) -> io::Result<()> {
     let mut spends = Nodes::<Spend> {
         records: &mut [no_record(); NODES],

@@ -6,7 +6,7 @@ use queue::queues::Queue;
 use store::stores::Store;
 
 // The most nodes of a job: a node's number has 16 bits.
-const MOST_NODES: u32 = 65_535;
+const MOST_NODES: u32 = u16::MAX as u32;
 
 // Holds the proof of the promise.
 fn calls_keep<K: Cost, S: Store, Q: Queue<K>, R: Store, P: Queue<K>>()

@@ -48,8 +48,7 @@ fn show_kind<K: Cost>(
     memory: &mut [Entry<K>],
 ) -> io::Result<()> {
     if let Err(refusal) = plan_costs(costs) {
-        let word = refusal.word();
-        return println!(rt; "{kind}: {word}");
+        return println!(rt; "{kind}: {refusal}");
     }
     print!(rt; "{kind}, scanned row,")?;
     show_order(rt, &mut ScannedRow::new(memory), costs)?;

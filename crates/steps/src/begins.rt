@@ -12,9 +12,6 @@ use rows::refusals::Refusal;
 use store::stores::Store;
 use task::accepted::Accepted;
 
-// The most nodes that a job has: their numbers are of 16 bits.
-const MOST: usize = 65535;
-
 // The least of the capacities of the tables' parts, for rows of so many bytes.
 fn capacity<K: Cost, S: Store, Q: Queue<K>>(t: &Tables<'_, K, S, Q>, width: usize) -> u16
     requires { 0 < width }
@@ -24,8 +21,7 @@ fn capacity<K: Cost, S: Store, Q: Queue<K>>(t: &Tables<'_, K, S, Q>, width: usiz
     let nodes = rows.min(t.records.len());
     let kept = nodes.min(t.store.capacity());
     let waiting = kept.min(t.queue.capacity());
-    // as: it fits by min, and u16::try_from would bring an error that cannot be
-    waiting.min(MOST) as u16
+    u16::try_from(waiting).unwrap_or(u16::MAX)
 }
 
 // Whether nothing is kept, nothing waits, and the store is over the task's values table.

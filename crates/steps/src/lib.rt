@@ -64,13 +64,6 @@ fn write_row(bytes: &mut [u8], n: u16, row: &[u8])
     bytes[from..from + row.len()].copy_from_slice(row);
 }
 
-// The cost of a move at this price joined to that of the rest.
-fn move_cost<K: Cost>(price: u32, rest: K) -> Result<K, Refusal>
-    ensures { MatchResult result (λ k. (K.Cost.value k ≡ K.Cost.arithmetic.joined (K.Cost.arithmetic.priced price) (K.Cost.value rest)) × (K.Cost.joins k ≡ 1 + K.Cost.joins rest)) (λ _. (price ≤ 1000000000 → K.Cost.joins rest ≤ 65534 → ⊥)) }
-{
-    K::price(price)?.join(rest)
-}
-
 // The number of moves, which is at most 4,096: so it is converted by as, since u16::try_from would bring an error that cannot be.
 fn move_count(accepted: &Accepted<'_>) -> u16
     ensures { result ≡ length (task_of (held accepted.now.task)).moves }

@@ -8,12 +8,12 @@ ghost use Rattle.steps.specs.Steps.{answered, back};
 ghost use Rattle.steps.specs.Answers.{memory_in, task_in, Lent, ReadyAt, SteadyAt, EagerAt, Moved, MoveGranted, MoveCounts, Expands, ExpandCounts, Visits, VisitCounts, Takes, TakeCounts, Granted};
 ghost use Rattle.steps.specs.Results.{Adds};
 
-use crate::numbers::Progress;
 use crate::outcomes::{Stop, Visited};
 use crate::tables::Record;
 use crate::workspaces::{Scratch, Workspace};
-use crate::{cost_at, move_cost, move_count, note, regress, row_at, write_row};
+use crate::{cost_at, move_count, note, regress, row_at, write_row};
 use cost::costs::Cost;
+use cost::plans::prepend;
 use queue::queues::Queue;
 use rows::inner::row_covers;
 use rows::refusals::Refusal;
@@ -74,15 +74,11 @@ impl<K: Cost, S: Store, Q: Queue<K>> Workspace<'_, '_, '_, '_, '_, K, S, Q> {
     fn add(&mut self, scratch: &Scratch, m: u16, price: u32) -> Result<(), Stop>
         ensures { Adds K.Cost S.Store Q.Queue m price (take (width (task_in self.old)) scratch.now) self.old self.new result }
     {
-        let Progress {
-            capacity,
-            stored,
-            cover,
-        } = self.progress;
-        if stored >= capacity {
+        let stored = self.progress.stored;
+        if stored >= self.progress.capacity {
             return Err(Stop::Crowded);
         }
-        let cost = move_cost(price, self.cost())?;
+        let cost = prepend(price, self.cost())?;
         let parent = self.node;
         let v = self.variables();
         write_row(self.rows, stored, &scratch[..v]);
@@ -96,11 +92,7 @@ impl<K: Cost, S: Store, Q: Queue<K>> Workspace<'_, '_, '_, '_, '_, K, S, Q> {
             },
         );
         self.queue.put(cost, stored)?;
-        self.progress = Progress {
-            capacity,
-            stored: stored + 1,
-            cover,
-        };
+        self.progress.stored = stored + 1;
         Ok(())
     }
 
@@ -110,16 +102,7 @@ impl<K: Cost, S: Store, Q: Queue<K>> Workspace<'_, '_, '_, '_, '_, K, S, Q> {
         ensures answered { memory_in S.Store Q.Queue self.new ≡ answered (memory_in S.Store Q.Queue self.old) rank }
         ensures tables { (self.new.store.now ≡ self.old.store.now) × (self.new.queue.now ≡ self.old.queue.now) }
     {
-        let Progress {
-            capacity,
-            stored,
-            cover: _,
-        } = self.progress;
-        self.progress = Progress {
-            capacity,
-            stored,
-            cover: Some(rank),
-        };
+        self.progress.cover = Some(rank);
     }
 
     // Tries move m at the node. For a result that a kept row covers nothing is written.
@@ -148,6 +131,7 @@ impl<K: Cost, S: Store, Q: Queue<K>> Workspace<'_, '_, '_, '_, '_, K, S, Q> {
         ensures granted { ReadyAt K.Cost S.Store Q.Queue self.old self.old → Granted result }
         ensures expands { Q.Queue.ordered self.old.queue.now → ReadyAt K.Cost S.Store Q.Queue self.old self.old → Expands K.Cost S.Store Q.Queue self.old self.new result }
     {
+        // over numbers: a move's number is noted of the node that it leads to
         let accepted = self.accepted;
         for m in 0..move_count(&accepted) {
             self.try_move(m, scratch)?;

@@ -8,7 +8,8 @@ use crate::tables::Record;
 use rows::checks::MOST_VARIABLES;
 use task::accepted::Accepted;
 
-// A row to work in: as many of its first bytes as the task has variables.
+// A row to work in: as many of its first bytes as the task has variables. It is handed beside the workspace: as a field of it
+// (tried) what the other lent memory holds is lost to the check while the row is written.
 pub(crate) type Scratch = [u8; MOST_VARIABLES];
 
 // What a step works with: the task, the parts of the tables, which have space for as many nodes as the capacity says, the node

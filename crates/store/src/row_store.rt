@@ -41,6 +41,7 @@ impl<'t, 'm> RowStore<'t, 'm> {
     }
 }
 
+// Kept rows are gone through by rank, which is what is answered; in chunks, a table of no variables would need a test of its own.
 impl RowStore<'_, '_> {
     // The kept row of rank r.
     fn row_at(&self, r: usize) -> &[u8]

@@ -99,8 +99,7 @@ fn show_answer(
         },
         Err(e) => {
             let number = e.number();
-            let word = e.word();
-            print!(rt; " | {number} {word}")
+            print!(rt; " | {number} {e}")
         }
     }
 }

@@ -51,6 +51,7 @@ impl Task<'_> {
     }
 }
 
+// Moves are gone through by number, as they are read everywhere; a chunk of their bytes would have to be taken apart a second way.
 impl Counted<'_> {
     // Whether each variable has a value, and each byte is allowed in its row.
     fn has_positions(&self) -> bool

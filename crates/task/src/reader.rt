@@ -12,7 +12,7 @@ use crate::word;
 use std::ops::Range;
 
 // The bytes of the contents, which are five entries of a place and a length.
-const CONTENTS: usize = 40;
+pub(crate) const CONTENTS: usize = 40;
 
 impl<'a> Contents<'a> {
     // Where body i begins and ends.

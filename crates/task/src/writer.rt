@@ -4,6 +4,7 @@ ghost use Rattle.task.specs.Answers.{held};
 ghost use Rattle.task.specs.Layouts.{entry, contents, parts, layout, total, Writing, writing, ReadsBack};
 
 use crate::addressable::Addressable;
+use crate::reader::CONTENTS;
 use crate::tables::Task;
 use rows::refusals::Refusal;
 
@@ -32,6 +33,7 @@ fn put_entry(out: &mut [u8], at: usize, place: u32, body: &[u8]) -> u32
     place + size
 }
 
+// The bodies stand one by one, since they go by their names.
 impl Addressable<'_> {
     // Writes the contents: an entry for each body.
     fn put_contents(&self, out: &mut [u8])
@@ -39,7 +41,7 @@ impl Addressable<'_> {
         ensures { out.new ≡ over (contents (held self.now.task)) out.old }
     {
         let task = self.task;
-        let start = put_entry(out, 0, 40, task.values);
+        let start = put_entry(out, 0, CONTENTS as u32, task.values);
         let goal = put_entry(out, 8, start, task.start);
         let moves = put_entry(out, 16, goal, task.goal);
         let names = put_entry(out, 24, moves, task.moves);
@@ -53,7 +55,7 @@ impl Addressable<'_> {
         ensures after { out.new ≡ over (take 40 out.old ++ parts (held self.now.task)) out.old }
     {
         let task = self.task;
-        let start = put(out, 40, task.values);
+        let start = put(out, CONTENTS, task.values);
         let goal = put(out, start, task.start);
         let moves = put(out, goal, task.goal);
         let names = put(out, moves, task.moves);
@@ -65,7 +67,8 @@ impl Addressable<'_> {
         ensures { result ≡ total (held self.now.task) }
     {
         let task = self.task;
-        40 + task.values.len()
+        CONTENTS
+            + task.values.len()
             + task.start.len()
             + task.goal.len()
             + task.moves.len()

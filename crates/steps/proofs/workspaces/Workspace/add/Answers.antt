@@ -1,4 +1,4 @@
-use Rattle.std.proofs.Common.{◌≡◌, ◌+◌, ◌*◌, List, ◌∷◌, length, take, refl, ap, ◌∙◌, subst, arith}
+use Rattle.std.proofs.Common.{◌≡◌, ◌+◌, ◌*◌, List, ◌∷◌, length, take, refl, ap, ◌∙◌, subst, ⊎_elim, arith}
 use Rattle.std.proofs.lemmas.List.Sorted.{IsPermutation-refl}
 use Rattle.task.specs.Answers.{held}
 use Rattle.queue.specs.declared.entries.Entry.{Entry}
@@ -20,7 +20,7 @@ returns-in_err-cost g c =
     let le = fair_price (task_in w) c.args.m _ _ (accepted_task (held a.task) a.counted a.positioned a.priced) f.moved in
     let sd = rd.fit.sound in
     let e = ap g.K.Cost.joins (c.cost.ensures sd.noted ∙ ap (λ r. r.cost) sd.there.is) in
-    c.in_err-cost.ensures (omega (arith, f.priced, le)) (omega (arith, e, sd.joins, sd.node, rd.fit.within, rd.fit.short)))
+    ⊎_elim (λ h. omega (arith, f.priced, le, h.1)) (λ h. omega (arith, h.2, e, sd.joins, sd.node, rd.fit.within, rd.fit.short)) c.in_err-cost.ensures)
 
 pub returns : goal.returns
 returns g c =
@@ -35,8 +35,8 @@ returns g c =
     let t : Memory g.row.K.Denot = record { bytes = c.write_row.new.bytes; records = c.note.new.records; table = s.table; kept = s.kept; space = s.space; waiting = e ∷ s.waiting; room = g.Q.Queue.room c.put.new.self; stored = k + 1; cover = s.cover } in
     let one = λ (f : Fresh g.K.Cost g.S.Store g.Q.Queue c.args.m c.args.price row w) (rd : ReadyAt g.K.Cost g.S.Store g.Q.Queue w w) (v : List (Entry g.row.K.Denot)) (ad : Added s.waiting e v).
     stores {t = record { bytes = t.bytes; records = t.records; table = t.table; kept = t.kept; space = t.space; waiting = v; room = t.room; stored = t.stored; cover = t.cover }}
-    f.moved f.uncovered c.if-stored-capacity.false
-    (joined_at g.K.Cost task s w.node c.args.m c.in_ok-cost.cost c.cost.result c.args.price rd.fit.sound.noted rd.fit.sound.there f.priced c.cost.ensures c.in_ok-cost.ensures.0 c.in_ok-cost.ensures.1)
+    f.moved f.uncovered c.if-stored-self.false
+    (joined_at g.K.Cost task s w.node c.args.m c.in_ok-cost.cost c.cost.result c.args.price rd.fit.sound.noted rd.fit.sound.there f.priced c.cost.ensures c.in_ok-cost.ensures.1 c.in_ok-cost.ensures.2)
     (record {
       bytes = at_width _ _ k row _ (fits_length task.values row (back_fits task c.args.m _ row acc rd.fit.sound.fit f.moved))
           (subst (λ z. c.write_row.new.bytes ≡ written w.rows.now (k * length (take z c.args.scratch.now)) (take z c.args.scratch.now)) c.variables-v.ensures c.write_row.ensures);
