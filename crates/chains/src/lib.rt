@@ -7,20 +7,14 @@ ghost use Rattle.chains.specs.Chains.{Link, Chain, Broken, Reading, NeverBoth, O
 use rows::refusals::Refusal;
 use steps::tables::Record;
 
-// The parent of a node.
-fn parent_at<K>(records: &[Record<K>], node: u16) -> u16
+// The parent of a node, and its move.
+fn link_at<K>(records: &[Record<K>], node: u16) -> (u16, u16)
     requires { node < length records.now }
-    ensures { (d : Record K) → result ≡ (slice_index_or records.now node d).parent }
+    ensures parent { (d : Record K) → result.0 ≡ (slice_index_or records.now node d).parent }
+    ensures step { (d : Record K) → result.1 ≡ (slice_index_or records.now node d).step }
 {
-    records[usize::from(node)].parent
-}
-
-// The move of a node.
-fn move_at<K>(records: &[Record<K>], node: u16) -> u16
-    requires { node < length records.now }
-    ensures { (d : Record K) → result ≡ (slice_index_or records.now node d).step }
-{
-    records[usize::from(node)].step
+    let record = &records[usize::from(node)];
+    (record.parent, record.step)
 }
 
 // Whether the parent is below its node, and the move is one of so many.
@@ -45,8 +39,8 @@ fn follow<K>(records: &[Record<K>], node: u16, moves: usize) -> Option<u16>
     if usize::from(node) >= records.len() {
         return None;
     }
-    let parent = parent_at(records, node);
-    if is_link(node, parent, move_at(records, node), moves) {
+    let (parent, step) = link_at(records, node);
+    if is_link(node, parent, step, moves) {
         Some(parent)
     } else {
         None
@@ -84,8 +78,9 @@ fn write_chain<K>(records: &[Record<K>], node: u16, out: &mut [u16])
         if is_root(at) {
             return;
         }
-        *cell = move_at(records, at);
-        at = parent_at(records, at);
+        let (parent, step) = link_at(records, at);
+        *cell = step;
+        at = parent;
     }
 }
 

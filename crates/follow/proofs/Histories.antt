@@ -1,6 +1,8 @@
 -- What a job's history leaves: tables that hold a run which goes on, or has ended in the same way.
 use Rattle.std.proofs.Common.{◌≡◌, ℕ, ◌+◌, ◌<◌, List, length, None, Ok, Err, sym, ap, ◌∙◌, subst, inl, inr}
 use Rattle.task.specs.Files.{Bodies, reading, task_of}
+use Rattle.task.proofs.Readings.{read_one}
+use Rattle.steps.proofs.Tasks.{accepted}
 use Rattle.cost.specs.declared.costs.Cost as cost
 use Rattle.store.specs.declared.stores.Store as store
 use Rattle.queue.specs.declared.queues.Queue as queue
@@ -25,7 +27,6 @@ use Rattle.follow.specs.Histories.{History, opened, went, idle, torn}
 use Rattle.follow.proofs.Holdings.{as_many}
 use Rattle.follow.proofs.Openings.{opens_hold}
 use Rattle.follow.proofs.Workings.{intact, goes, ends}
-use Rattle.follow.proofs.Tasks.{accepted, read_one}
 
 module _ {K S Q : Type 0} (C : cost.Ghosts K) (st : store.Ghosts S) (qu : queue.Ghosts Q K) (file : List ℕ) (s : Tables K S Q) where
   -- a job that goes on: its tables hold a run that does

@@ -5,7 +5,6 @@ pub mod Holdings
 pub mod Follows
 pub mod Openings
 pub mod Workings
-pub mod Tasks
 pub mod Histories
 pub mod Chains
 pub mod Promises

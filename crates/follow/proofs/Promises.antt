@@ -1,6 +1,7 @@
 -- What is promised of every job.
 use Rattle.std.proofs.Common.{◌≡◌, ℕ, ◌+◌, ◌*◌, ◌<◌, ◌≤◌, List, None, Ok, sym, refl, ap, ◌∙◌, subst, arith}
 use Rattle.task.specs.Files.{Bodies, move_count, reading, task_of}
+use Rattle.task.proofs.Readings.{read_one}
 use Rattle.cost.specs.declared.costs.Cost as cost
 use Rattle.store.specs.declared.stores.Store as store
 use Rattle.queue.specs.declared.queues.Queue as queue
@@ -24,8 +25,7 @@ use Rattle.steps.specs.Begins.{capacity}
 use Rattle.search.specs.Works.{Works}
 use Rattle.follow.specs.Histories.{History, went, capacity_of, Chain}
 use Rattle.follow.specs.Promises.{most, Finds, AsDefined, StepsAsDefined, NeverRefused, FoundIsCheapest, NoPlanIsNone, SpaceSuffices, JobsEnd}
-use Rattle.follow.proofs.Tasks.{accepted, read_one}
-use Rattle.steps.proofs.Tasks.{move_count_lem}
+use Rattle.steps.proofs.Tasks.{move_count_lem, accepted}
 use Rattle.follow.proofs.Chains.{chain_unique, chain_of}
 use Rattle.follow.proofs.Histories.{Live, Over, State, state, never_refused}
 

@@ -3,7 +3,7 @@ use Rattle.std.proofs.Common.{◌≡◌, ℕ, true, false, cond, not, ◌&&◌, 
 use Rattle.std.proofs.lemmas.Bool.Decides.{nat_tests}
 use Rattle.std.proofs.lemmas.Bool.{and_parts, and_from, both_ways, cases_Bool, or_parts, cond-true, cond-false}
 use Rattle.rows.specs.Rows.{Row, fixed, covers_at, covers, fits_at, fits, overlaid, hits, differ, clear, backed}
-use Rattle.rows.proofs.Both.{both_length}
+use Rattle.rows.proofs.Both.{both_length, fits_length}
 use Rattle.planning.specs.declared.beliefs.Belief.TheVariants.{CoverAgrees, RegressedLeads, LedIsRegressed, CovererRegresses}
 use Rattle.planning.specs.Beliefs.{CoversAgree, RegressedRowsLead, LedRowsAreRegressed, CoverersRegress, BeliefsAreJudged}
 use Rattle.planning.specs.Samples.{u, open_gate}
@@ -40,9 +40,6 @@ covers_agree (a ∷ k) (b ∷ g) (c ∷ s) p q =
     let x = and_parts (covers_at a b) (covers k g) p in
     let y = and_parts (covers_at b c) (covers g s) q in
     and_from (covers_at a c) (covers k s) (through_at a b c x.0 y.0) (covers_agree k g s x.1 y.1)
-
-pub fits_length : (values r : List ℕ) → fits values r ≡ true → length r ≡ length values
-fits_length values r f = sym (both_length fits_at values r f)
 
 -- a state that the regressed row agrees with meets the condition
 meets_condition : (g c e s : Row) → length c ≡ length g → length e ≡ length g → covers (backed g c e) s ≡ true → covers c s ≡ true

@@ -1,6 +1,8 @@
 -- Lists read by place, membership, and how many distinct numbers there are below a bound.
-use Rattle.std.proofs.Common.{◌≡◌, ℕ, zero, suc, ◌+◌, ◌<◌, ◌≤◌, cond, eqb, ◌⊎◌, List, [], ◌∷◌, ◌++◌, length, Some, None, Option, sym, refl, ap, ◌∙◌, subst, inl, inr, arith}
-use Rattle.std.proofs.lemmas.Bool.{cases_Bool, cases_eq, cases_lt, cond-true, cond-false, eqb-true, eqb-false}
+use Rattle.std.proofs.Common.{◌≡◌, ℕ, zero, suc, ◌+◌, ◌<◌, ◌≤◌, Bool, true, false, eqb, ◌⊎◌, List, [], ◌∷◌, ◌++◌, length, Some, None, Option, sym, refl, ap, ◌∙◌, inl, inr, arith}
+use Rattle.std.specs.List.{list_any, AllByRecursion, IsDistinct}
+use Rattle.std.proofs.lemmas.Bool.{cases_Bool, cases_lt, both_ways, or_cases, eqb-true}
+use Rattle.std.proofs.lemmas.Map.Steps.{length-le_from_distinct_below}
 use Rattle.rows.specs.Tasks.{nth}
 use Rattle.planning.specs.Lists.{In, Distinct}
 
@@ -66,47 +68,19 @@ distinct_push y [] d n = (λ m. m, tt)
 distinct_push y (x ∷ xs) d n =
     (λ m. elim (in_push x y xs m) [ inl e ↦ n (inl (sym e)) | inr k ↦ d.0 k ], distinct_push y xs d.1 (λ m. n (inr m)))
 
--- the list without a number
-abbrev less : ℕ → List ℕ → List ℕ
-less p [] = []
-less p (x ∷ xs) = cond (eqb x p) (less p xs) (x ∷ less p xs)
+among : (y : ℕ) (xs : List ℕ) → list_any (eqb y) xs ≡ true → In y xs
+among y [] h = absurd (both_ways false refl h)
+among y (x ∷ xs) h = elim (or_cases (eqb y x) (list_any (eqb y) xs) h) [ inl e ↦ inl (eqb-true y x e) | inr k ↦ inr (among y xs k) ]
 
-in_head : (p x y : ℕ) (xs : List ℕ) → (x ≡ p → ⊥) → (In y (less p xs) → In y xs × (y ≡ p → ⊥)) → In y (x ∷ less p xs) → In y (x ∷ xs) × (y ≡ p → ⊥)
-in_head p x y xs ne f (inl e) = (inl e, λ q. ne (sym e ∙ q))
-in_head p x y xs ne f (inr k) = let h = f k in (inr h.0, h.1)
+others : (x : ℕ) (xs : List ℕ) → (In x xs → ⊥) → AllByRecursion (λ y. eqb x y ≡ false) xs
+others x [] f = tt
+others x (y ∷ xs) f = (elim (cases_Bool (eqb x y)) [ inl e ↦ absurd (f (inl (eqb-true x y e))) | inr n ↦ n ], others x xs (λ m. f (inr m)))
 
-in_less : (p y : ℕ) (xs : List ℕ) → In y (less p xs) → In y xs × (y ≡ p → ⊥)
-in_less p y [] m = absurd m
-in_less p y (x ∷ xs) m = elim (cases_Bool (eqb x p)) [
-  | inl e ↦ let h = in_less p y xs (subst (λ z. In y z) (cond-true (eqb x p) (less p xs) (x ∷ less p xs) e) m) in (inr h.0, h.1)
-  | inr n ↦ in_head p x y xs (eqb-false x p n) (λ k. in_less p y xs k) (subst (λ z. In y z) (cond-false (eqb x p) (less p xs) (x ∷ less p xs) n) m)
-]
-
-distinct_less : (p : ℕ) (xs : List ℕ) → Distinct xs → Distinct (less p xs)
-distinct_less p [] d = tt
-distinct_less p (x ∷ xs) d = elim (cases_Bool (eqb x p)) [
-  | inl e ↦ subst (λ z. Distinct z) (sym (cond-true (eqb x p) (less p xs) (x ∷ less p xs) e)) (distinct_less p xs d.1)
-  | inr n ↦ subst (λ z. Distinct z) (sym (cond-false (eqb x p) (less p xs) (x ∷ less p xs) n)) (λ m. d.0 (in_less p x xs m).0, distinct_less p xs d.1)
-]
-
-none_less : (p : ℕ) (xs : List ℕ) → (In p xs → ⊥) → length (less p xs) ≡ length xs
-none_less p [] f = refl
-none_less p (x ∷ xs) f = elim (cases_Bool (eqb x p)) [
-  | inl e ↦ absurd (f (inl (sym (eqb-true x p e))))
-  | inr n ↦ ap length (cond-false (eqb x p) (less p xs) (x ∷ less p xs) n) ∙ (let h = none_less p xs (λ m. f (inr m)) in omega arith)
-]
-
-one_less : (p : ℕ) (xs : List ℕ) → Distinct xs → length xs ≤ length (less p xs) + 1
-one_less p [] d = omega arith
-one_less p (x ∷ xs) d = elim (cases_Bool (eqb x p)) [
-  | inl e ↦ let h = none_less p xs (λ m. d.0 (subst (λ z. In z xs) (sym (eqb-true x p e)) m)) in omega (arith, ap length (cond-true (eqb x p) (less p xs) (x ∷ less p xs) e))
-  | inr n ↦ let h = one_less p xs d.1 in omega (arith, ap length (cond-false (eqb x p) (less p xs) (x ∷ less p xs) n))
-]
+distinct_by : (xs : List ℕ) → Distinct xs → IsDistinct eqb xs
+unfolding IsDistinct
+distinct_by [] d = tt
+distinct_by (x ∷ xs) d = (others x xs d.0, distinct_by xs d.1)
 
 -- distinct numbers below a bound are no more than the bound
 pub numbers_few : (p : ℕ) (xs : List ℕ) → Distinct xs → ((y : ℕ) → In y xs → y < p) → length xs ≤ p
-numbers_few zero [] d f = omega arith
-numbers_few zero (x ∷ xs) d f = absurd (let h = f x (inl refl) in omega arith)
-numbers_few (suc p) xs d f =
-    let h = numbers_few p (less p xs) (distinct_less p xs d) (λ y m. let k = in_less p y xs m in let l = f y k.0 in let ne = k.1 in elim (cases_eq y p) [ inl e ↦ absurd (ne e) | inr n ↦ omega arith ]) in
-    omega (arith, one_less p xs d)
+numbers_few p xs d f = length-le_from_distinct_below xs p (distinct_by xs d) (λ y h. f y (among y xs h))

@@ -10,7 +10,7 @@ use Rattle.planning.specs.Spaces as spaces
 use Rattle.planning.specs.Regressions.{over, regression, Regresses, RegressionIsLawful}
 use Rattle.planning.proofs.Lists.{none_some, nth_none}
 use Rattle.planning.proofs.Laws.{covers_agree, regressed_lead, led_regressed}
-use Rattle.planning.proofs.Fits.{regressed_fits}
+use Rattle.planning.proofs.Fits.{back_fits}
 use Rattle.planning.proofs.Counts.{rows_few}
 
 covers_itself : (r : Row) → covers r r ≡ true
@@ -27,10 +27,6 @@ sound_over : (t : Task) (o : Option Move) (g h s : Row) → ((m : Move) → o �
     → (m : Move) × (o ≡ Some m) × ((s' : Row) × (applied m s ≡ Some s') × (covers g s' ≡ true))
 sound_over t None g h s mf fg b p = none_some h b
 sound_over t (Some m) g h s mf fg b p = (m, refl, regressed_lead t.values m g h s (mf m refl) fg b p)
-
-fits_over : (t : Task) (o : Option Move) (g h : Row) → ((m : Move) → o ≡ Some m → MoveFits t.values m) → fits t.values g ≡ true → over o g ≡ Some h → fits t.values h ≡ true
-fits_over t None g h mf fg b = none_some h b
-fits_over t (Some m) g h mf fg b = regressed_fits t.values g m h (mf m refl) fg b
 
 route_of : (t : Task) {s z : Row} {ns : List ℕ} → Path t s ns z → covers t.goal z ≡ true → Route (regression t) s ns
 route_of t done g = there g
@@ -58,7 +54,7 @@ regression_lawful t acc = record {
     through = covers_agree;
     below = only_moves t;
     goal_fits = acc.goal;
-    back_fits = λ n g h fg b. fits_over t (nth t.moves n) g h (λ m e. acc.move n m e) fg b;
+    back_fits = λ n g h fg b. back_fits t n g h acc fg b;
     few = rows_few t.values;
   };
   plans = λ ns. (λ pl. (t.start, refl, route_of t pl.1 pl.2), λ s. path_of t (subst (λ z. Route (regression t) z ns) s.1 s.2));

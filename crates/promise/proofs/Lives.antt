@@ -5,6 +5,8 @@ use Rattle.std.proofs.lemmas.Bool.{and_parts, ltb-true}
 use Rattle.rows.specs.Rows.{valued}
 use Rattle.rows.specs.Tasks.{Task, Accepted}
 use Rattle.task.specs.Files.{Bodies, reading, task_of}
+use Rattle.task.proofs.Readings.{read_one}
+use Rattle.steps.proofs.Tasks.{accepted}
 use Rattle.cost.specs.declared.costs.Cost as cost
 use Rattle.store.specs.declared.stores.Store as store
 use Rattle.queue.specs.declared.queues.Queue as queue
@@ -29,7 +31,6 @@ use Rattle.search.specs.Works.{Works}
 use Rattle.follow.specs.Histories.{History, opened, went, idle, torn, capacity_of}
 use Rattle.follow.specs.Promises.{AtOnce}
 use Rattle.follow.proofs.Places.{at_one}
-use Rattle.follow.proofs.Tasks.{accepted, read_one}
 use Rattle.follow.proofs.Promises.{jobs_defined, jobs_end}
 use Rattle.follow.proofs.Uses.{others_use}
 use Rattle.promise.specs.Calls.{Job, job, since, Calls, none, opens, declines, works, reads_plan, reads_cost}

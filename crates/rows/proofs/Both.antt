@@ -1,8 +1,8 @@
--- A test of the two bytes at each place: of the whole lists, and place by place.
-use Rattle.std.proofs.Common.{◌≡◌, ℕ, zero, suc, ◌<◌, Bool, true, false, ◌&&◌, List, [], ◌∷◌, length, get_or, refl, ap, arith}
+-- A test of the two bytes at each place: of the whole lists, and place by place; and what a row that fits is long.
+use Rattle.std.proofs.Common.{◌≡◌, ℕ, zero, suc, ◌<◌, Bool, true, false, ◌&&◌, List, [], ◌∷◌, length, get_or, sym, refl, ap, arith}
 use Rattle.std.specs.List.{list_all, zip}
 use Rattle.std.proofs.lemmas.Bool.{and_parts, and_left, and_right, both_ways}
-use Rattle.rows.specs.Rows.{both}
+use Rattle.rows.specs.Rows.{both, fits_at, fits}
 
 module _ (p : ℕ → ℕ → Bool) where
   pub both_length : (xs ys : List ℕ) → both p xs ys ≡ true → length xs ≡ length ys
@@ -42,3 +42,7 @@ module _ (p : ℕ → ℕ → Bool) where
   both_pairs [] (b ∷ ys) e = absurd (omega arith)
   both_pairs (a ∷ xs) [] e = absurd (omega arith)
   both_pairs (a ∷ xs) (b ∷ ys) e = ap (λ t. p a b && t) (both_pairs xs ys (omega arith))
+
+-- a row that fits a values table is as long as it
+pub fits_length : (values row : List ℕ) → fits values row ≡ true → length row ≡ length values
+fits_length values row h = sym (both_length fits_at values row h)

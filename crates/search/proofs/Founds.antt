@@ -3,6 +3,7 @@ use Rattle.std.proofs.Common.{◌≡◌, ℕ, ◌*◌, ◌<◌, ◌≤◌, List,
 use Rattle.rows.specs.declared.refusals.Refusal.{Refusal}
 use Rattle.rows.specs.declared.refusals.Refusal.TheVariants.{Torn}
 use Rattle.task.specs.Files.{Bodies, move_count, reading}
+use Rattle.task.proofs.Readings.{read_one}
 use Rattle.planning.proofs.Lists.{nth_some}
 use Rattle.steps.specs.declared.tables.Record.{Record}
 use Rattle.steps.specs.declared.tables.Tables.{Tables}
@@ -12,7 +13,6 @@ use Rattle.search.specs.declared.jobs.Found.{Found}
 use Rattle.search.specs.Files.{Shaped}
 use Rattle.search.specs.Plans.{Serves, PlansOn, Costed, CostsOn}
 use Rattle.search.specs.Reads.{Legible, Unread, ReadsPlan, ReadsCost}
-use Rattle.search.proofs.Openings.{same_bodies}
 
 -- the cost that is read at the found node's place is that of its record
 pub costed : {K S Q : Type 0} (b : Bodies) (f : Found) (t : Tables K S Q) (ns : List ℕ) (k : K) → f.node < length t.records.now → Chain t.records.now (move_count b) f.node ns
@@ -40,7 +40,7 @@ module _ {K S Q : Type 0} (file : List ℕ) (b : Bodies) (f : Found) (t : Tables
 
   serves : (plan : List ℕ) → Legible file f t plan → Serves b f t
   serves plan l =
-      let h = subst (Shaped f.shape) (same_bodies file l.bodies b l.suits.reads reads) l.suits.shaped in
+      let h = subst (Shaped f.shape) (read_one file l.bodies b l.suits.reads reads) l.suits.shaped in
       (h, (l.records, subst (λ z. f.progress.capacity * z ≤ length t.rows.now) (sym h.0) l.bytes))
 
   chained : (plan : List ℕ) → Legible file f t plan → Chain t.records.now (move_count b) f.node plan

@@ -6,7 +6,6 @@ use crate::jobs::{Searching, Shape};
 use cost::costs::Cost;
 use queue::queues::Queue;
 use rows::refusals::Refusal;
-use steps::begins::begin;
 use steps::numbers::{Numbers, Progress};
 use steps::tables::Tables;
 use store::stores::Store;
@@ -20,7 +19,7 @@ fn open_on<K: Cost, S: Store, Q: Queue<K>>(
 ) -> Result<Searching, Refusal>
     ensures { OpensOn K.Cost S.Store Q.Queue (held accepted.now.task) t.old t.new result }
 {
-    let capacity = begin(accepted, t)?;
+    let capacity = t.begin(accepted)?;
     Ok(Searching {
         shape: Shape::of(accepted),
         numbers: Numbers {

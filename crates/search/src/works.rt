@@ -8,7 +8,6 @@ use cost::costs::Cost;
 use queue::queues::Queue;
 use steps::numbers::Turned;
 use steps::tables::Tables;
-use steps::turns::turn;
 use store::stores::Store;
 use task::accepted::Accepted;
 use task::read;
@@ -24,7 +23,7 @@ fn advance<K: Cost, S: Store, Q: Queue<K>>(
 {
     let shape = job.shape;
     let progress = job.numbers.progress;
-    match turn(accepted, t, job.numbers) {
+    match t.turn(accepted, job.numbers) {
         Err(_) => Err(job),
         Ok(Turned::Onward(numbers)) => Ok(Worked::Searching(Searching { shape, numbers })),
         Ok(Turned::Found(node)) => {

@@ -5,6 +5,7 @@ use Rattle.rows.specs.declared.refusals.Refusal.{Refusal}
 use Rattle.rows.specs.declared.refusals.Refusal.TheVariants.{ShortBuffer}
 use Rattle.task.specs.declared.faults.Fault.{Fault}
 use Rattle.task.specs.Files.{Bodies, move_count, reading, task_of}
+use Rattle.task.proofs.Readings.{read_one}
 use Rattle.cost.specs.declared.costs.Cost as cost
 use Rattle.store.specs.declared.stores.Store as store
 use Rattle.queue.specs.declared.queues.Queue as queue
@@ -28,7 +29,6 @@ use Rattle.search.specs.Reads.{ReadsPlan}
 use Rattle.follow.specs.Histories.{History, opened, went, capacity_of}
 use Rattle.follow.specs.Promises.{Finds, most}
 use Rattle.follow.proofs.Chains.{chain_of}
-use Rattle.follow.proofs.Tasks.{read_one}
 use Rattle.follow.proofs.Promises.{law, jobs_defined, jobs_complete, jobs_roomy, jobs_end}
 use Rattle.promise.specs.Calls.{job, Calls, none, opens, works}
 use Rattle.promise.proofs.Noted.{noted_chain, chain_noted}

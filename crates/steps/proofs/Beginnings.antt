@@ -1,5 +1,6 @@
 -- New tables, and how node 0 is stored in them.
-use Rattle.std.proofs.Common.{◌≡◌, ℕ, ◌*◌, ◌/◌, ◌<◌, ◌≤◌, Bool, true, false, List, length, MatchBool, sym, ◌∙◌, subst, mul-le-mul_right, zero-mul, div-mul-le_self, arith}
+use Rattle.std.proofs.Common.{◌≡◌, ℕ, ◌*◌, ◌/◌, ◌<◌, ◌≤◌, Bool, true, false, List, length, Decides, MatchBool, sym, refl, ◌∙◌, subst, mul-le-mul_right, zero-mul, div-mul-le_self, arith}
+use Rattle.std.proofs.lemmas.Bool.{both_ways}
 use Rattle.rows.specs.Rows.{Row}
 use Rattle.rows.specs.Tasks.{Task}
 use Rattle.steps.specs.Memories.{Memory, written}
@@ -7,9 +8,9 @@ use Rattle.steps.specs.Begins.{New}
 use Rattle.steps.proofs.Leasts.{no_more}
 
 pub new_when : {K : Type 0} (b : Bool) (task : Task) (s : Memory K) (v : List ℕ) → length s.kept ≡ 0 → length s.waiting ≡ 0 → v ≡ s.table
-    → MatchBool b (v ≡ task.values) (v ≡ task.values → ⊥) → MatchBool b (New task s) (New task s → ⊥)
-new_when true task s v k w e h = record { kept = no_more s.kept k; waiting = no_more s.waiting w; table = sym e ∙ h }
-new_when false task s v k w e h = λ n. h (e ∙ n.table)
+    → Decides b (v ≡ task.values) → MatchBool b (New task s) (New task s → ⊥)
+new_when true task s v k w e d = record { kept = no_more s.kept k; waiting = no_more s.waiting w; table = sym e ∙ d.0 refl }
+new_when false task s v k w e d = λ n. both_ways false refl (d.1 (e ∙ n.table))
 
 -- bytes that hold a row hold one
 pub one_row : (w l : ℕ) → 0 < l / w → w ≤ l

@@ -19,6 +19,12 @@ exists_at [] n h = absurd (omega arith)
 exists_at (y ∷ xs) zero h = (y, record { below = h; is = refl })
 exists_at (y ∷ xs) (suc n) h = let r = exists_at xs n (omega arith) in (r.0, record { below = h; is = r.1.is })
 
+-- one thing stands at a place
+pub one_at : {X : Type 0} (xs : List X) (n : ℕ) (x y : X) → At xs n x → At xs n y → x ≡ y
+one_at [] n x y a b = absurd (let h = a.below in omega arith)
+one_at (z ∷ xs) zero x y a b = sym a.is ∙ b.is
+one_at (z ∷ xs) (suc n) x y a b = one_at xs n x y (record { below = let h = a.below in omega arith; is = a.is }) (record { below = let h = b.below in omega arith; is = b.is })
+
 module _ {K : Type 0} (C : cost.Ghosts K) where
   -- of two entries neither of which comes before the other, neither number is below the other's
   not_below : (d e : Entry K) → goes C d e ≡ false → goes C e d ≡ false → e.number ≤ d.number
@@ -38,12 +44,12 @@ module _ {K : Type 0} (C : cost.Ghosts K) where
   pub none_named : (xs : List (Entry K)) (n : ℕ) → xs ≡ [] → Names C xs n → ⊥
   none_named xs n e p = let h = p.1.there.1 in omega (arith, ap length e)
 
-  pub sound_from : (task : Task) (s : Memory K) (n : ℕ) (r : Row) (v : ℕ) (k : K) (j : ℕ) → n < s.stored → s.stored ≤ length s.records → v ≡ width task → r ≡ row_at v s.bytes n → fits task.values r ≡ true
-      → ((d : Record K) → k ≡ (get_or s.records n d).cost) → (x : Record K) → At s.records n x → j ≡ C.joins k
+  pub sound_from : (task : Task) (s : Memory K) (n : ℕ) (r : Row) (v j : ℕ) → n < s.stored → s.stored ≤ length s.records → v ≡ width task → r ≡ row_at v s.bytes n → fits task.values r ≡ true
+      → (x : Record K) → At s.records n x → j ≡ C.joins x.cost
       → MatchBool (leb j n) (Sound C task n s) (Sound C task n s → ⊥)
-  sound_from task s n r v k j lt le ev er f ek x at ej =
+  sound_from task s n r v j lt le ev er f x at ej =
       let er' : r ≡ row_at (width task) s.bytes n = subst (λ z. r ≡ row_at z s.bytes n) ev er in
-      let cost_is : (y : Record K) → At s.records n y → j ≡ C.joins y.cost = λ y a. ej ∙ ap C.joins (ek y ∙ ap (λ z. z.cost) a.is) in
+      let cost_is : (y : Record K) → At s.records n y → j ≡ C.joins y.cost = λ y a. ej ∙ ap (λ z. C.joins z.cost) (one_at s.records n x y at a) in
       elim (leb j n) as (λ b. leb j n ≡ b → MatchBool b (Sound C task n s) (Sound C task n s → ⊥)) [
         | true ↦ λ h. record { node = lt; fit = subst (λ z. fits task.values z ≡ true) er' f; noted = x; there = at; joins = subst (λ z. z ≤ n) (cost_is x at) (leb-true j n h) }
         | false ↦ λ h sd. let e = cost_is sd.noted sd.there in let lt' = leb-false j n h in omega (arith, sd.joins)

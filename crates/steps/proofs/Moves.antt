@@ -14,7 +14,8 @@ use Rattle.steps.specs.Memories.{Memory, At, width, row_at, written}
 use Rattle.steps.specs.Steps.{back, Joined, Stored, One, unmoved, covered, stores}
 use Rattle.steps.specs.Answers.{Ready}
 use Rattle.steps.proofs.Parts.{row_below, row_within, length_written}
-use Rattle.steps.proofs.Tasks.{back_fits, fits_length}
+use Rattle.rows.proofs.Both.{fits_length}
+use Rattle.planning.proofs.Fits.{back_fits}
 
 -- what the move answers of the row that was read is what it answers of the node's row
 pub here : (task : Task) (m : ℕ) (bytes : List ℕ) (n v : ℕ) (res : Row) (o : Option Row) → res ≡ row_at v bytes n → v ≡ width task → back task m res ≡ o → back task m (row_at (width task) bytes n) ≡ o

@@ -1,40 +1,34 @@
 -- The task in accepted bodies, and its moves as they are read from there.
-use Rattle.std.proofs.Common.{◌≡◌, ℕ, zero, suc, ◌+◌, ◌<◌, ◌≤◌, Bool, true, false, ◌&&◌, ltb, leb, List, map, length, Some, None, Option, sym, refl, ap, ◌∙◌, subst, arith}
+use Rattle.std.proofs.Common.{◌≡◌, ℕ, zero, suc, ◌+◌, ◌<◌, ◌≤◌, Bool, true, false, ◌&&◌, ltb, leb, List, map, length, Some, None, Ok, Option, sym, refl, ap, ◌∙◌, subst, arith}
 use Rattle.std.proofs.lemmas.Bool.{and_parts, and_from, leb-true}
+use Rattle.std.proofs.lemmas.List.FromFn.{length-map-range_with_len}
 use Rattle.std.specs.List.{range_with_len}
 use Rattle.rows.specs.Rows.{Row, Move, fits_at, fits, complete, valued, pulled}
 use Rattle.rows.specs.Calls.{Placing, placing, even}
 use Rattle.rows.specs.Tasks.{Task, nth, MoveFits, Accepted}
-use Rattle.rows.proofs.Both.{both_length}
+use Rattle.rows.proofs.Both.{fits_length}
 use Rattle.rows.proofs.Outcomes.{even_from}
 use Rattle.task.specs.declared.tables.Step.{Step}
 use Rattle.task.specs.Answers.{move_of, Steps}
-use Rattle.task.specs.Files.{Bodies, move_count, move_at, counts, positions, prices, rows_fit, task_of}
+use Rattle.task.specs.Files.{Bodies, move_count, move_at, counts, positions, prices, rows_fit, reading, task_of}
 use Rattle.task.specs.Files as file
 use Rattle.task.proofs.Eaches.{each_at}
 use Rattle.task.proofs.Judgings.{counted}
+use Rattle.task.proofs.Readings.{read_parts}
 use Rattle.planning.proofs.Lists.{some_inj, none_some, nth_none, nth_below}
-use Rattle.planning.proofs.Fits.{regressed_fits}
 use Rattle.planning.specs.Plans.{price, price_of}
 use Rattle.planning.specs.Regressions.{over}
 use Rattle.steps.specs.Memories.{width}
 use Rattle.steps.specs.Steps.{back}
-
-pub fits_length : (values row : List ℕ) → fits values row ≡ true → length row ≡ length values
-fits_length values row h = sym (both_length fits_at values row h)
 
 nth_counting : {X : Type 0} (f : ℕ → X) (a n k j : ℕ) → a + k ≡ j → k < n → nth (map f (range_with_len a n)) k ≡ Some (f j)
 nth_counting f a zero k j e h = absurd (omega arith)
 nth_counting f a (suc n) zero j e h = ap (λ z. Some (f z)) (omega arith)
 nth_counting f a (suc n) (suc k) j e h = nth_counting f (a + 1) n k j (omega arith) (omega arith)
 
-length_counted : {X : Type 0} (f : ℕ → X) (a n : ℕ) → length (map f (range_with_len a n)) ≡ n
-length_counted f a zero = refl
-length_counted f a (suc n) = ap suc (length_counted f (a + 1) n)
-
 -- as many moves as records
 pub move_count_lem : (b : Bodies) → length (task_of b).moves ≡ move_count b
-move_count_lem b = length_counted (move_at (file.width b) b.moves) 0 (move_count b)
+move_count_lem b = length-map-range_with_len (move_at (file.width b) b.moves) 0 (move_count b)
 
 nth_move : (b : Bodies) (k : ℕ) → k < move_count b → nth (task_of b).moves k ≡ Some (move_at (file.width b) b.moves k)
 nth_move b k h = nth_counting (move_at (file.width b) b.moves) 0 (move_count b) k k (omega arith) h
@@ -61,6 +55,10 @@ accepted_task b c p q =
             effect = r.1;
           });
     }
+
+-- so does a file that is read
+pub accepted : (file : List ℕ) (b : Bodies) → reading file ≡ Ok b → Accepted (task_of b)
+accepted file b h = let j = (read_parts file b h).judged in accepted_task b j.counted j.positioned j.priced
 
 -- a move that is read is the task's
 pub at_step : (b : Bodies) (k : ℕ) (s : Step) → Steps b k (Some s) → nth (task_of b).moves k ≡ Some (move_of s)
@@ -94,14 +92,6 @@ pub placed_no : (e : Bool) (o : Option Row) (out new : List ℕ) → e ≡ true 
 placed_no true None out new t h = refl
 placed_no true (Some r) out new t h = apart (sym (ap (λ (p : Placing). p.answer) h))
 placed_no false o out new t h = apart (sym t)
-
--- a regressed row fits
-fits_over : (t : Task) (o : Option Move) (g h : Row) → ((m : Move) → o ≡ Some m → MoveFits t.values m) → fits t.values g ≡ true → over o g ≡ Some h → fits t.values h ≡ true
-fits_over t None g h mf fg b = none_some h b
-fits_over t (Some m) g h mf fg b = regressed_fits t.values g m h (mf m refl) fg b
-
-pub back_fits : (t : Task) (m : ℕ) (g r : Row) → Accepted t → fits t.values g ≡ true → back t m g ≡ Some r → fits t.values r ≡ true
-back_fits t m g r a pg q = fits_over t (nth t.moves m) g r (λ x e. a.move m x e) pg q
 
 price_over : (t : Task) (o : Option Move) (g h : Row) → ((m : Move) → o ≡ Some m → MoveFits t.values m) → over o g ≡ Some h → price_of o ≤ 1000000000
 price_over t None g h mf b = none_some h b

@@ -7,6 +7,7 @@ use Rattle.cost.specs.declared.costs.Cost as cost
 use Rattle.store.specs.declared.stores.Store as store
 use Rattle.queue.specs.declared.queues.Queue as queue
 use Rattle.queue.specs.Orders.{Added}
+use Rattle.steps.specs.declared.tables.Record.{Record}
 use Rattle.steps.specs.declared.tables.Tables.{Tables}
 use Rattle.steps.specs.Memories.{Memory, memory, width, written}
 
@@ -20,6 +21,12 @@ pub record New {K : Type 0} (task : Task) (s : Memory K) : Type 0 where
   pub kept : s.kept ≡ []
   pub waiting : s.waiting ≡ []
   pub table : s.table ≡ task.values
+
+-- what is noted of node 0: the cost of nothing, with parent and move 0
+pub record Root {K : Type 0} (C : cost.Ghosts K) (x : Record K) : Type 0 where
+  pub nothing : C.value x.cost ≡ C.arithmetic.nothing
+  pub joins : C.joins x.cost ≡ 0
+  pub is : x ≡ record { cost = x.cost; parent = 0; step = 0 }
 
 module _ {K : Type 0} (C : cost.Ghosts K) (task : Task) where
   -- node 0 is stored and waits: the goal's row, at the cost of nothing, with parent and move 0

@@ -1,10 +1,9 @@
 #![tactic(auto)]
 
-ghost use Rattle.std.specs.Prelude.{◌≡◌, ℕ, ◌+◌, ◌*◌, ◌<◌, ◌≤◌, Bool, true, false, List, length, Some, None, MatchBool, MatchOption, MatchResult, ◌≢◌, slice_index_or, slice_set};
+ghost use Rattle.std.specs.Prelude.{◌≡◌, ◌+◌, ◌*◌, ◌≤◌, length, Some, None, MatchOption};
 ghost use Rattle.task.specs.Answers.{held};
 ghost use Rattle.task.specs.Files.{task_of};
 ghost use Rattle.planning.specs.Plans.{price};
-ghost use Rattle.steps.specs.declared.tables.Record.{Record};
 ghost use Rattle.steps.specs.Memories.{width, row_at, written};
 ghost use Rattle.steps.specs.Steps.{back};
 
@@ -16,33 +15,7 @@ pub mod turns;
 mod visits;
 mod workspaces;
 
-use cost::costs::Cost;
-use rows::refusals::Refusal;
-use tables::Record;
 use task::accepted::Accepted;
-
-// Whether two runs of bytes are the same.
-fn same(a: &[u8], b: &[u8]) -> bool
-    ensures { MatchBool result (a.now ≡ b.now) (a.now ≢ b.now) }
-{
-    a == b
-}
-
-// Notes a record at a place.
-fn note<K: Cost>(records: &mut [Record<K>], at: u16, r: Record<K>)
-    requires { at < length records.old }
-    ensures { records.new ≡ slice_set records.old at r }
-{
-    records[usize::from(at)] = r;
-}
-
-// The cost of node n.
-fn cost_at<K: Cost>(records: &[Record<K>], n: u16) -> K
-    requires { n < length records.now }
-    ensures { (d : Record K) → result ≡ (slice_index_or records.now n d).cost }
-{
-    records[usize::from(n)].cost
-}
 
 // Row n, at v bytes a row.
 fn row_at(bytes: &[u8], n: u16, v: usize) -> &[u8]

@@ -11,7 +11,7 @@ ghost use Rattle.steps.specs.Results.{Adds};
 use crate::outcomes::{Stop, Visited};
 use crate::tables::Record;
 use crate::workspaces::{Scratch, Workspace};
-use crate::{cost_at, move_count, note, regress, row_at, write_row};
+use crate::{move_count, regress, row_at, write_row};
 use cost::costs::Cost;
 use cost::plans::prepend;
 use queue::queues::Queue;
@@ -66,8 +66,7 @@ impl<K: Cost, S: Store, Q: Queue<K>> Workspace<'_, '_, '_, '_, '_, K, S, Q> {
     fn cost(&self) -> K
         ensures { (d : Record K) → result ≡ (slice_index_or self.now.records.now self.now.node d).cost }
     {
-        let records: &[Record<K>] = self.records;
-        cost_at(records, self.node)
+        self.records[usize::from(self.node)].cost
     }
 
     // The row at work, met by move m at this price, which no kept row covers, as the next node.
@@ -82,15 +81,11 @@ impl<K: Cost, S: Store, Q: Queue<K>> Workspace<'_, '_, '_, '_, '_, K, S, Q> {
         let parent = self.node;
         let v = self.variables();
         write_row(self.rows, stored, &scratch[..v]);
-        note(
-            self.records,
-            stored,
-            Record {
-                cost,
-                parent,
-                step: m,
-            },
-        );
+        self.records[usize::from(stored)] = Record {
+            cost,
+            parent,
+            step: m,
+        };
         self.queue.put(cost, stored)?;
         self.progress.stored = stored + 1;
         Ok(())

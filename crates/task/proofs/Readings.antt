@@ -1,5 +1,5 @@
 -- What is known where the reader accepts.
-use Rattle.std.proofs.Common.{◌≡◌, ℕ, ◌≤◌, Bool, true, false, cond, not, ltb, List, length, Ok, Err, Result, refl, ap, ◌∙◌, arith}
+use Rattle.std.proofs.Common.{◌≡◌, ℕ, ◌≤◌, Bool, true, false, cond, not, ltb, List, length, Ok, Err, Result, sym, refl, ap, ◌∙◌, arith}
 use Rattle.std.proofs.lemmas.Bool.{ltb-false, not-false, le-ltb}
 use Rattle.task.specs.declared.faults.Fault.TheVariants.{Stub, Contents, Count, Position, Price, Name}
 use Rattle.task.specs.Files.{Bodies, bodies, tiles, counts, positions, prices, names, judged, reading}
@@ -54,6 +54,10 @@ read_parts file b h =
       is = j.0;
       judged = rw j.0 at j.1;
     }
+
+-- a file is read as one task
+pub read_one : (file : List ℕ) (b d : Bodies) → reading file ≡ Ok b → reading file ≡ Ok d → b ≡ d
+read_one file b d p q = sym (read_parts file b p).is ∙ (read_parts file d q).is
 
 pub read_from : (file : List ℕ) (b : Bodies) → Read file b → reading file ≡ Ok b
 read_from file b r =

@@ -1,9 +1,6 @@
 use Rattle.std.proofs.Common.{◌+◌, sym, subst, arith}
-use Rattle.chains.proofs.Ways.{Counted, counted_none, counted_more, counted_broken, counted_all}
+use Rattle.chains.proofs.Ways.{Counted, counted_more, counted_broken, counted_all}
 use Rattle.chains.proofs.chain_length.Goals as goal
-
-pub loop-at-init : goal.loop-at-init
-loop-at-init g c = counted_none c.args.records.now c.args.moves c.args.node
 
 pub returns-in_err-at : goal.returns-in_err-at
 returns-in_err-at g c = rw c.from_residual.ensures (counted_broken c.args.records.now c.args.moves c.loop-at.invariant (omega arith) c.in_err-at.ensures)

@@ -1,13 +1,16 @@
-use Rattle.std.proofs.Common.{◌≡◌, ◌+◌, ◌*◌, List, ◌∷◌, length, take, refl, ap, ◌∙◌, subst, ⊎_elim, arith}
+use Rattle.std.proofs.Common.{◌≡◌, ◌+◌, ◌*◌, List, ◌∷◌, length, take, slice_set, length-set, refl, ap, ◌∙◌, subst, ⊎_elim, arith}
 use Rattle.std.proofs.lemmas.List.Sorted.{IsPermutation-refl}
 use Rattle.task.specs.Answers.{held}
 use Rattle.queue.specs.declared.entries.Entry.{Entry}
 use Rattle.queue.specs.Orders.{Added}
+use Rattle.steps.specs.declared.tables.Record.{Record}
 use Rattle.steps.specs.Memories.{Memory, width, written}
 use Rattle.steps.specs.Steps.{stores}
 use Rattle.steps.specs.Answers.{memory_in, task_in, ReadyAt}
 use Rattle.steps.specs.Results.{Fresh}
-use Rattle.steps.proofs.Tasks.{accepted_task, back_fits, fits_length, fair_price}
+use Rattle.rows.proofs.Both.{fits_length}
+use Rattle.planning.proofs.Fits.{back_fits}
+use Rattle.steps.proofs.Tasks.{accepted_task, fair_price}
 use Rattle.steps.proofs.Moves.{ready_one, ready_as_many, joined_at, at_width}
 use Rattle.steps.proofs.Additions.{adds_torn}
 use Rattle.steps.proofs.workspaces.Workspace.add.Goals as goal
@@ -31,8 +34,9 @@ returns g c =
     let k = w.progress.stored in
     let acc = accepted_task (held a.task) a.counted a.positioned a.priced in
     let s = memory_in g.S.Store g.Q.Queue w in
+    let new : Record g.row.K.Denot = record { cost = c.in_ok-cost.cost; parent = w.node; step = c.args.m } in
     let e : Entry g.row.K.Denot = record { cost = c.in_ok-cost.cost; number = k } in
-    let t : Memory g.row.K.Denot = record { bytes = c.write_row.new.bytes; records = c.note.new.records; table = s.table; kept = s.kept; space = s.space; waiting = e ∷ s.waiting; room = g.Q.Queue.room c.put.new.self; stored = k + 1; cover = s.cover } in
+    let t : Memory g.row.K.Denot = record { bytes = c.write_row.new.bytes; records = slice_set w.records.now c.from.result new; table = s.table; kept = s.kept; space = s.space; waiting = e ∷ s.waiting; room = g.Q.Queue.room c.put.new.self; stored = k + 1; cover = s.cover } in
     let one = λ (f : Fresh g.K.Cost g.S.Store g.Q.Queue c.args.m c.args.price row w) (rd : ReadyAt g.K.Cost g.S.Store g.Q.Queue w w) (v : List (Entry g.row.K.Denot)) (ad : Added s.waiting e v).
     stores {t = record { bytes = t.bytes; records = t.records; table = t.table; kept = t.kept; space = t.space; waiting = v; room = t.room; stored = t.stored; cover = t.cover }}
     f.moved f.uncovered c.if-stored-self.false
@@ -40,7 +44,7 @@ returns g c =
     (record {
       bytes = at_width _ _ k row _ (fits_length task.values row (back_fits task c.args.m _ row acc rd.fit.sound.fit f.moved))
           (subst (λ z. c.write_row.new.bytes ≡ written w.rows.now (k * length (take z c.args.scratch.now)) (take z c.args.scratch.now)) c.variables-v.ensures c.write_row.ensures);
-      records = c.note.ensures;
+      records = ap (λ z. slice_set w.records.now z new) c.from.ensures;
       waiting = ad;
       stored = refl;
       kept = refl;
@@ -50,7 +54,7 @@ returns g c =
       cover = refl;
     }) in
     record {
-      lent = record { accepted = refl; node = refl; capacity = refl; rows = refl; bytes = c.write_row.auto.bytes; noted = c.note.auto.records; records = refl; store = refl; queue = refl };
+      lent = record { accepted = refl; node = refl; capacity = refl; rows = refl; bytes = c.write_row.auto.bytes; noted = length-set _ _ _; records = refl; store = refl; queue = refl };
       counts = record { more = omega arith; store = refl; waits = omega (arith, c.in_ok-put.ensures.count.1) };
       granted = λ f rd. ready_as_many g.K.Cost task w.progress.capacity t (g.Q.Queue.entries c.put.new.self) (omega (arith, c.in_ok-put.ensures.count.1)) (ready_one g.K.Cost task w.progress.capacity acc rd (one f rd (e ∷ s.waiting) (IsPermutation-refl (e ∷ s.waiting))));
       moved = λ f o rd. (c.put.ensures.ordered o, one f rd (g.Q.Queue.entries c.put.new.self) (c.in_ok-put.ensures.entries o));
