@@ -1,20 +1,23 @@
 -- What a visit keeps, and how it ends.
-use Rattle.std.proofs.Common.{◌≡◌, ℕ, ◌*◌, ◌<◌, ◌≤◌, true, false, Err, Result, length, sym, ap, ◌∙◌, subst, arith}
+use Rattle.std.proofs.Common.{◌≡◌, ℕ, ◌*◌, ◌<◌, ◌≤◌, true, false, Ok, Err, Result, length, sym, ap, ◌∙◌, subst, arith}
 use Rattle.std.specs.Result.{IsErrAnd}
+use Rattle.rows.specs.declared.refusals.Refusal.{Refusal}
 use Rattle.rows.specs.Rows.{Row, fits, covers}
 use Rattle.rows.specs.Tasks.{Task}
 use Rattle.cost.specs.declared.costs.Cost as cost
 use Rattle.steps.specs.Memories.{Memory, At, width, row_at}
 use Rattle.store.specs.declared.stores.Store as store
 use Rattle.store.specs.Stores.{Uncovered}
+use Rattle.store.proofs.Known.{only_full, not_held}
 use Rattle.queue.specs.declared.queues.Queue as queue
 use Rattle.steps.specs.declared.outcomes.Stop.{Stop}
 use Rattle.steps.specs.declared.outcomes.Stop.TheVariants.{Torn, Crowded}
 use Rattle.steps.specs.declared.outcomes.Visited.{Visited}
 use Rattle.steps.specs.declared.workspaces.Workspace.{Workspace}
 use Rattle.steps.specs.Steps.{Kept, Upto, Crowded as Crowds, crowds}
-use Rattle.steps.specs.Answers.{Fit, Ready, Steady, memory_in, task_in, Lent, Expands, Visits}
-use Rattle.steps.proofs.Additions.{refused, lent_at}
+use Rattle.steps.specs.Answers.{Fit, Ready, Steady, ReadyAt, SteadyAt, memory_in, task_in, Lent, Expands, Visits}
+use Rattle.steps.specs.Results.{KeepsRow, Keeps}
+use Rattle.steps.proofs.Additions.{refused, lent_at, lent_from}
 
 module _ {K : Type 0} (C : cost.Ghosts K) (task : Task) (cap : ℕ) where
   pub fit_kept : {n : ℕ} {r : Row} {s t : Memory K} → Fit C task cap n s → Kept C task r s t → Fit C task cap n t
@@ -40,6 +43,14 @@ module _ {K : Type 0} (C : cost.Ghosts K) (task : Task) (cap : ℕ) where
   }
 
 module _ {K S Q : Type 0} (C : cost.Ghosts K) (st : store.Ghosts S) (qu : queue.Ghosts Q K) where
+  -- tables that are steady keep a row that no kept row covers
+  pub keep_granted : (w v : Workspace K S Q) (row : Row) (e : Refusal) → fits (st.table w.store.now) row ≡ true → Uncovered (st.kept w.store.now) row → KeepsRow C st qu row w v (Err e) → SteadyAt C st qu w w → ⊥
+  keep_granted w v row e f u k sd = omega (arith, (only_full _ _ _ row e f (not_held _ row u) k).1, sd.spare)
+
+  -- once the node's row is kept, they are ready for its moves
+  pub ready_next : (w v : Workspace K S Q) (row : Row) → Keeps C st qu row w v (Ok tt) → SteadyAt C st qu w w → ReadyAt C st qu v v
+  ready_next w v row k sd = lent_from w v (λ task cap n. Ready C task cap n (memory_in st qu v)) k.lent (ready_kept C (task_in w) w.progress.capacity sd k.answer)
+
   -- a visit that breaks off, by how its expansion did
   pub visits_stop : (w mid v : Workspace K S Q) (s : Stop) (r : Result Visited Stop) → IsErrAnd r (λ e. e ≡ s) → Lent w mid
       → Uncovered (st.kept w.store.now) (row_at (width (task_in w)) w.rows.now w.node) → covers (row_at (width (task_in w)) w.rows.now w.node) (task_in w).start ≡ false

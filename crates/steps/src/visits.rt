@@ -6,7 +6,7 @@ ghost use Rattle.planning.specs.Plans.{price};
 ghost use Rattle.steps.specs.Memories.{width, row_at};
 ghost use Rattle.steps.specs.Steps.{answered, back};
 ghost use Rattle.steps.specs.Answers.{memory_in, task_in, Lent, ReadyAt, SteadyAt, EagerAt, Moved, MoveGranted, MoveCounts, Expands, ExpandCounts, Visits, VisitCounts, Takes, TakeCounts, Granted};
-ghost use Rattle.steps.specs.Results.{Adds};
+ghost use Rattle.steps.specs.Results.{Adds, Keeps};
 
 use crate::outcomes::{Stop, Visited};
 use crate::tables::Record;
@@ -67,6 +67,14 @@ impl<K: Cost, S: Store, Q: Queue<K>> Workspace<'_, '_, '_, '_, '_, K, S, Q> {
         ensures { (d : Record K) → result ≡ (slice_index_or self.now.records.now self.now.node d).cost }
     {
         self.records[usize::from(self.node)].cost
+    }
+
+    // Keeps the row at work, at the next rank.
+    fn keep(&mut self, scratch: &Scratch) -> Result<(), Refusal>
+        ensures { Keeps K.Cost S.Store Q.Queue (take (width (task_in self.old)) scratch.now) self.old self.new result }
+    {
+        let v = self.variables();
+        self.store.keep(&scratch[..v])
     }
 
     // The row at work, met by move m at this price, which no kept row covers, as the next node.
@@ -149,8 +157,7 @@ impl<K: Cost, S: Store, Q: Queue<K>> Workspace<'_, '_, '_, '_, '_, K, S, Q> {
         if self.agrees(scratch) {
             return Ok(Visited::Found);
         }
-        let v = self.variables();
-        self.store.keep(&scratch[..v])?;
+        self.keep(scratch)?;
         self.expand(scratch)?;
         Ok(Visited::Expanded)
     }
