@@ -2,13 +2,19 @@
 
 use description::{LONGEST, describe};
 use std::io;
-use std::io::Read;
+use std::io::{BufReader, Read};
 
-// Describes the task file on standard input. Of a longer input only the first bytes are read: one byte more tells.
+// The bytes that are read: of a longer input only the first, one byte more than the longest file, which tells.
+const FIRST: usize = LONGEST + 1;
+
+// Describes the task file on standard input.
 fn main(rt: HostRuntime) -> io::Result<()> {
     let heap = rt.alloc();
-    let mut input = Vec::new(heap);
     // as: Rust has no From of usize for u64
-    rt.stdin().take(LONGEST as u64 + 1).read_to_end(&mut input)?;
+    let first = rt.stdin().take(FIRST as u64);
+    // Each read asks for all that is still wanted: where input comes in packets, what a read leaves of one is lost. One place more
+    // than is filled, so that the end is met without more memory.
+    let mut input = Vec::with_capacity(heap, FIRST + 1)?;
+    BufReader::with_capacity(heap, FIRST, first)?.read_to_end(&mut input)?;
     rt.print(describe(heap, input.as_slice())?)
 }

@@ -2,14 +2,20 @@
 
 use device::{LONGEST, answer, longest_answer};
 use std::io;
-use std::io::{Read, Write};
+use std::io::{BufReader, Read, Write};
 
-// Plans for the task file on standard input. Of a longer input only the first bytes are read: one byte more tells.
+// The bytes that are read: of a longer input only the first, one byte more than the longest file, which tells.
+const FIRST: usize = LONGEST + 1;
+
+// Plans for the task file on standard input.
 fn main(rt: HostRuntime) -> io::Result<()> {
     let heap = rt.alloc();
-    let mut input = Vec::new(heap);
     // as: Rust has no From of usize for u64
-    rt.stdin().take(LONGEST as u64 + 1).read_to_end(&mut input)?;
+    let first = rt.stdin().take(FIRST as u64);
+    // Each read asks for all that is still wanted: where input comes in packets, what a read leaves of one is lost. One place more
+    // than is filled, so that the end is met without more memory.
+    let mut input = Vec::with_capacity(heap, FIRST + 1)?;
+    BufReader::with_capacity(heap, FIRST, first)?.read_to_end(&mut input)?;
     let mut text = vec![in heap; 0; longest_answer()]?;
     match answer(input.as_slice(), text.as_mut_slice()) {
         Ok(n) => rt.stdout().write_all(&text[0..n]),
