@@ -12,6 +12,16 @@ use rows::refusals::Refusal;
 use store::stores::Store;
 use task::accepted::Accepted;
 
+// Begins a job in new tables, and answers its capacity: node 0 is stored and waits.
+pub fn begin<K: Cost, S: Store, Q: Queue<K>>(
+    accepted: &Accepted<'_>,
+    t: &mut Tables<'_, K, S, Q>,
+) -> Result<u16, Refusal>
+    ensures { Begins K.Cost S.Store Q.Queue (task_of (held accepted.now.task)) t.old t.new result }
+{
+    t.begin(accepted)
+}
+
 impl<K: Cost, S: Store, Q: Queue<K>> Tables<'_, K, S, Q> {
     // The least of the capacities of the tables' parts, for rows of so many bytes.
     fn capacity(&self, width: usize) -> u16

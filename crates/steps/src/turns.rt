@@ -19,6 +19,19 @@ use rows::refusals::Refusal;
 use store::stores::Store;
 use task::accepted::Accepted;
 
+// One turn of a job on an accepted file: a step, unless the tables are torn.
+pub fn turn<K: Cost, S: Store, Q: Queue<K>>(
+    accepted: &Accepted<'_>,
+    t: &mut Tables<'_, K, S, Q>,
+    job: Numbers,
+) -> Result<Turned, Refusal>
+    ensures counts { Counts K.Cost S.Store Q.Queue (task_of (held accepted.now.task)) job t.new result }
+    ensures unmoved { Unmoved t.old t.new result }
+    ensures turns { Q.Queue.ordered t.old.queue → Turns K.Cost S.Store Q.Queue (task_of (held accepted.now.task)) job t.old t.new result }
+{
+    t.turn(accepted, job)
+}
+
 impl<K: Cost, S: Store, Q: Queue<K>> Tables<'_, K, S, Q> {
     // Whether the tables are as large as the capacity asks, over the task's values table, and as full as the job left them.
     fn is_sized(&self, accepted: &Accepted<'_>, job: Numbers) -> bool
