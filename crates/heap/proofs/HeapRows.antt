@@ -1,5 +1,5 @@
 -- The heap of a row of entries.
-use Rattle.std.proofs.Common.{◌≡◌, ℕ, ◌+◌, ◌-◌, ◌*◌, ◌/◌, ◌<◌, ◌≤◌, true, false, List, [], ◌∷◌, ◌++◌, length, get_or, set, sym, ap, ◌∙◌, subst, ⊎_elim, arith}
+use Rattle.std.proofs.Common.{◌≡◌, ℕ, ◌+◌, ◌-◌, ◌*◌, ◌/◌, ◌<◌, ◌≤◌, ◌≢◌, true, false, List, [], ◌∷◌, ◌++◌, length, get_or, set, sym, ap, ◌∙◌, subst, ⊎_elim, arith}
 use Rattle.std.specs.List.Sorted.{IsPermutation}
 use Rattle.std.specs.List.{swap, swap_remove}
 use Rattle.std.proofs.lemmas.List.{length-take-le, length-set, length_push, get_or-take, get_or-set_other, get_or_append_left}
@@ -121,6 +121,13 @@ module _ {K : Type 0} (C : cost.Ghosts K) where
       let read : (k : ℕ) → 0 < k → k < n → get_or ys k d ≡ get_or xs k d =
       λ k hk kn. ap (λ l. get_or l k d) e ∙ get_or-take n (set xs 0 y) k d kn ∙ get_or-set_other xs 0 k y d (λ z. omega arith) in
       rw (read j (omega arith) (omega arith), read ((j - 1) / 2) hu (omega arith)) (h j d (omega arith) (omega arith))
+
+  -- the same of any entry put there, with one place less
+  pub rooted_set : (xs : List (Entry K)) (n : ℕ) (y : Entry K) → Heaped C xs n → Rooted C (set xs 0 y) (n - 1)
+  rooted_set xs n y h j d hu jn =
+      let nj : j ≢ 0 = λ e. omega arith in
+      let nu : (j - 1) / 2 ≢ 0 = λ e. omega arith in
+      rw (get_or-set_other xs 0 j y d nj, get_or-set_other xs 0 ((j - 1) / 2) y d nu) (h j d (omega arith) (omega arith))
 
   pub root_least : (xs : List (Entry K)) (x : Entry K) → 0 < length xs → x ≡ get_or xs 0 x → Heaped C xs (length xs) → Least C xs x
   root_least xs x pos r h = leads_least C xs 0 x (heaped_leads xs (length xs) pos h) r

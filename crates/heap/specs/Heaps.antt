@@ -4,6 +4,7 @@ use Rattle.std.proofs.Common.{ap, arith}
 use Rattle.cost.specs.declared.costs.Cost as cost
 use Rattle.queue.specs.declared.entries.Entry.{Entry}
 use Rattle.queue.specs.Orders.{goes}
+use Rattle.queue.specs.Places.{used, front, length_front}
 
 module _ {K : Type 0} (C : cost.Ghosts K) where
   -- none comes before the one above it
@@ -21,5 +22,9 @@ module _ {K : Type 0} (C : cost.Ghosts K) where
     pub child : (r - 1) / 2 ≡ i
     pub least : (s : ℕ) (d : Entry K) → 0 < s → s < n → (s - 1) / 2 ≡ i → goes C (slice_index_or xs s d) (slice_index_or xs r d) ≡ false
 
-  pub empty_heaped : (xs : List (Entry K)) → xs ≡ [] → Heaped xs (length xs)
-  empty_heaped xs e j d hj jn = absurd (omega (arith, ap length e))
+  pub none_heaped : (xs : List (Entry K)) → xs ≡ [] → Heaped xs (length xs)
+  none_heaped xs e j d hj jn = absurd (omega (arith, ap length e))
+
+  -- the same of a row of memory of which none is in use
+  pub empty_heaped : (count : ℕ) (xs : List (Entry K)) → front count xs ≡ [] → Heaped xs (used count (length xs))
+  empty_heaped count xs e j d hj jn = absurd (omega (arith, ap length e, length_front count xs))

@@ -4,7 +4,7 @@ ghost use Rattle.queue.specs.declared.entries.Entry.{Entry};
 ghost use Rattle.queue.specs.Orders.{goes};
 ghost use Rattle.queue.specs.Places.{room, front_fits};
 ghost use Rattle.queue.specs.Items.{items};
-ghost use Rattle.heap.specs.Heaps.{Heaped, Rooted, Lower, empty_heaped};
+ghost use Rattle.heap.specs.Heaps.{Heaped, Rooted, Lower, none_heaped};
 ghost use Rattle.heap.specs.Makes.{heap_entries, heap_room};
 
 use cost::costs::Cost;
@@ -41,7 +41,7 @@ impl<'a, K: Cost> Queue<K> for Heap<'a, K> {
 
     ghost ordered = { λ q. Heaped K.Cost (heap_entries q) (length (heap_entries q)) };
 
-    ghost empty = { λ q e. empty_heaped K.Cost (heap_entries q) e };
+    ghost empty = { λ q e. none_heaped K.Cost (heap_entries q) e };
 
     ghost fits = { λ q. front_fits q.waiting.count q.waiting.places.now };
 

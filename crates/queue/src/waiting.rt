@@ -37,11 +37,18 @@ impl<T> Waiting<'_, T> {
         self.as_slice().len()
     }
 
-    // How many can be.
+    // How many places were lent, in use or not.
+    pub fn lent(&self) -> usize
+        ensures { result ≡ length self.now.places.now }
+    {
+        self.places.len()
+    }
+
+    // How many can be in use.
     pub fn capacity(&self) -> usize
         ensures { result ≡ room self.now.places.now }
     {
-        in_use(self.places.len(), self.places.len())
+        in_use(self.lent(), self.lent())
     }
 
     // What they hold.
