@@ -1,2 +1,3 @@
 pub mod Workings
 pub mod Founds
+pub mod Suited

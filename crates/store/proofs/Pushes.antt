@@ -1,6 +1,6 @@
 -- One row more at the end of a list, and in the bytes of a row store.
-use Rattle.std.proofs.Common.{◌≡◌, ℕ, ◌+◌, ◌-◌, ◌*◌, ◌<◌, ◌≤◌, true, ◌⊎◌, List, [], ◌∷◌, ◌++◌, length, get_or, take, drop, sym, ap, ◌∙◌, subst, inl, inr, mul-le-mul_right, add-mul, one-mul, arith, rules}
-use Rattle.std.proofs.lemmas.List.{ext_get_or, length_push, get_or_append_left, get_or_push}
+use Rattle.std.proofs.Common.{◌≡◌, ℕ, ◌+◌, ◌-◌, ◌*◌, ◌<◌, ◌≤◌, true, ◌⊎◌, List, [], ◌∷◌, ◌++◌, length, get_or, take, drop, set, sym, ap, ◌∙◌, subst, inl, inr, mul-le-mul_right, add-mul, one-mul, arith, rules}
+use Rattle.std.proofs.lemmas.List.{ext_get_or, drop-set-add, take-set-le, length-set, length_push, get_or_append_left, get_or_push}
 use Rattle.std.proofs.lemmas.Slice.{between_is, take-put_mid_below, between-put_mid, overwrites}
 use Rattle.std.proofs.lemmas.Bool.{cases_lt}
 use borrow.Rule.Slice.PartMut.{put_mid}
@@ -9,6 +9,25 @@ use Rattle.rows.specs.Rows.{Row, fits}
 use Rattle.store.specs.Stores.{Distinct, AllFit, Holds, space_of}
 use Rattle.store.specs.Blocks.{row_at, rows_of, kept_at, length_rows, inside}
 use Rattle.store.proofs.Searches.{wide}
+
+-- a byte that is written behind n rows changes none of them
+row_set_at : (width : ℕ) (bytes : List ℕ) (r j x : ℕ) → width ≤ j → row_at width (set bytes (r * width + j) x) r ≡ row_at width bytes r
+row_set_at width bytes r j x h =
+    ap (take width) (drop-set-add (r * width) bytes j x) ∙ take-set-le width (drop (r * width) bytes) j x h
+
+row_set : (width : ℕ) (bytes : List ℕ) (r i x : ℕ) → (r + 1) * width ≤ i → row_at width (set bytes i x) r ≡ row_at width bytes r
+row_set width bytes r i x h =
+    let e : r * width + (i - r * width) ≡ i = omega (arith, add-mul r 1 width, one-mul width) in
+    let w : width ≤ i - r * width = omega (arith, add-mul r 1 width, one-mul width) in
+    subst (λ n. row_at width (set bytes n x) r ≡ row_at width bytes r) e (row_set_at width bytes r (i - r * width) x w)
+
+pub rows_set : (width n : ℕ) (bytes : List ℕ) (i x : ℕ) → n * width ≤ i → rows_of width n (set bytes i x) ≡ rows_of width n bytes
+rows_set width n bytes i x h =
+    ext_get_or [] (rows_of width n (set bytes i x)) (rows_of width n bytes) (length_rows width n (set bytes i x) ∙ sym (length_rows width n bytes))
+    (λ r l.
+    let b : r < n = omega (arith, length_rows width n (set bytes i x)) in
+    let m : (r + 1) * width ≤ n * width = mul-le-mul_right width (let q : r + 1 ≤ n = omega arith in q) in
+    kept_at width n (set bytes i x) r b ∙ row_set width bytes r i x (omega arith) ∙ sym (kept_at width n bytes r b))
 
 part : (bytes : List ℕ) (a n : ℕ) → take n (drop a bytes) ≡ drop a (take (a + n) bytes)
 part bytes a n = let e : a + n - a ≡ n = omega arith in ap (λ k. take k (drop a bytes)) (sym e) ∙ between_is bytes a (a + n)
@@ -76,6 +95,19 @@ pub record Sound (values bytes : List ℕ) (space count : ℕ) : Type 0 where
   pub inside : count ≤ space
   pub apart : Distinct (rows_of (length values) count bytes)
   pub fit : AllFit values (rows_of (length values) count bytes)
+
+-- which hold still once a byte behind the counted rows is written
+pub still_sound : (values bytes : List ℕ) (space count i x : ℕ) → count * length values ≤ i
+    → space ≡ space_of values (length bytes) → count ≤ space → Distinct (rows_of (length values) count bytes) → AllFit values (rows_of (length values) count bytes)
+    → Sound values (set bytes i x) space count
+still_sound values bytes space count i x le m c d a =
+    let e = sym (rows_set (length values) count bytes i x le) in
+    record {
+      measured = m ∙ ap (space_of values) (sym (length-set bytes i x));
+      inside = c;
+      apart = subst Distinct e d;
+      fit = subst (AllFit values) e a;
+    }
 
 -- a row more has space behind the counted ones
 pub room : (values bytes row : List ℕ) (space count : ℕ) → fits values row ≡ true → count < space → space ≡ space_of values (length bytes)
